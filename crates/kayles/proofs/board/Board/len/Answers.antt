@@ -1,0 +1,6 @@
+use mathlib.Core.Path.{sym}
+use Rattle.kayles.proofs.Masks.{length-pins}
+use Rattle.kayles.proofs.board.Board.len.Needs as need
+
+pub returns : need.returns
+returns c = sym (length-pins (c .args .self .count) (c .args .self .standing))
