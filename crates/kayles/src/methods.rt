@@ -34,9 +34,10 @@ impl Board {
         Some(Board { count: self.count + 1, standing: self.standing + (bit_of(pin) << self.count) })
     }
 
-    // How many pins there are, standing or down.
+    // How many pins there are, standing or down: never more than 32.
     pub fn len(self) -> u8
-        ensures { λ r. ⌜ r ≡ length (row self) ⌝ }
+        ensures value { λ r. ⌜ r ≡ length (row self) ⌝ }
+        ensures bound { λ r. ⌜ r ≤ 32 ⌝ }
     {
         self.count
     }

@@ -1,0 +1,65 @@
+-- The lines of a book. Assumes nothing.
+use mathlib.Core.Path.{_≡_}
+use mathlib.Core.List.{List, [], _∷_, _++_}
+use mathlib.Core.Logic.{_⊎_}
+use Prim.Native.Nat.{ℕ, _<_}
+use lib.ListN.{length, getD}
+use Rattle.std.specs.Joined.{joined}
+use Rattle.book.specs.declared.line.Ending.{Ending}
+use Rattle.book.specs.declared.line.Ending.the-variants.{Feed, ReturnFeed, End, ReturnEnd}
+use Rattle.book.specs.declared.line.Line.{Line}
+
+-- the bytes of a line feed and of a carriage return
+abbrev pub LF : ℕ
+LF = 10
+
+abbrev pub CR : ℕ
+CR = 13
+
+-- the bytes of an ending: at most one carriage return, then at most one line feed
+abbrev pub mark : Ending → List ℕ
+mark Feed = LF ∷ []
+mark ReturnFeed = CR ∷ LF ∷ []
+mark End = []
+mark ReturnEnd = CR ∷ []
+
+-- a line as it stands in the book, with its ending
+abbrev pub whole : Line → List ℕ
+whole l = l .text .now ++ mark (l .ending)
+
+-- the ending is a line feed
+abbrev pub Fed : Ending → Type 0
+Fed Feed = Unit {0}
+Fed ReturnFeed = Unit {0}
+Fed End = ⊥
+Fed ReturnEnd = ⊥
+
+-- a carriage return was dropped
+abbrev pub Returned : Ending → Type 0
+Returned Feed = ⊥
+Returned ReturnFeed = Unit {0}
+Returned End = ⊥
+Returned ReturnEnd = Unit {0}
+
+-- a line has no line feed in it, and a carriage return at its end only behind one that was dropped
+pub record Is-line (l : Line) : Type 0 where
+  pub unbroken : (k : ℕ) → k < length (l .text .now) → getD (l .text .now) k 0 ≡ LF → ⊥
+  pub stripped : (front : List ℕ) → l .text .now ≡ front ++ CR ∷ [] → Returned (l .ending)
+
+-- every line but the last ends in a line feed; the last may end with the book, and then is not nothing
+abbrev pub In-order : List Line → Type 0
+In-order [] = Unit {0}
+In-order (l ∷ []) = Is-line l × (Fed (l .ending) ⊎ (0 < length (whole l)))
+In-order (l ∷ m ∷ ls) = Is-line l × Fed (l .ending) × In-order (m ∷ ls)
+
+-- these are the lines of the book: put together again with their endings, they are the book
+pub record Lines-of (book : List ℕ) (ls : List Line) : Type 0 where
+  pub together : joined whole ls ≡ book
+  pub in-order : In-order ls
+
+-- l is the first line of the book, and rest is what comes after it
+pub record First-line (book : List ℕ) (l : Line) (rest : List ℕ) : Type 0 where
+  pub together : whole l ++ rest ≡ book
+  pub is-line : Is-line l
+  pub some : 0 < length (whole l)
+  pub ends : Fed (l .ending) ⊎ (rest ≡ [])
