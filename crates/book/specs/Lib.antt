@@ -1,2 +1,6 @@
+pub mod BoardLines
 pub mod Faults
 pub mod Lines
+pub mod Readings
+pub mod Tags
+pub mod Tokens

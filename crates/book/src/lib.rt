@@ -1,9 +1,16 @@
 // The book of boards: its lines, what a line says, and the proof sheet for the press.
 mod fault;
 mod line;
+mod reader;
+mod token;
 
 pub use fault::Fault;
 pub use fault::Refusal;
 pub use line::Ending;
 pub use line::Line;
 pub use line::lines;
+pub use reader::Item;
+pub use reader::read_line;
+pub use token::Placed;
+pub use token::Token;
+pub use token::board_token;

@@ -8,9 +8,10 @@ use lib.Count.{ones, ones-step}
 use lib.ListN.{length, getD}
 use mathlib.Core.Bool.{Bool, true, false, cond}
 use lib.Pow.{shl-exact, shr-shr}
+use Rattle.kayles.specs.declared.board.Board.{Board}
 use Rattle.kayles.specs.declared.board.Pin.{Pin}
 use Rattle.kayles.specs.declared.board.Pin.the-variants.{Standing, Down}
-use Rattle.kayles.specs.Rows.{bit, pin-of, pins, upright}
+use Rattle.kayles.specs.Rows.{bit, pin-of, pins, row, upright}
 
 pub length-pins : (n m : ℕ) → length (pins n m) ≡ n
 unfolding pins
@@ -73,3 +74,7 @@ up-pin b e = ap (λ t. cond t Standing Down) e
 pub pin-up : (b : Bool) → cond b Standing Down ≡ Standing → b ≡ true
 pin-up true e = refl
 pin-up false e = let z : _≡_ {A = ℕ} 0 1 = cc in absurd (omega arith)
+
+-- no board has more than 32 pins
+pub row-few : (b : Board) → length (row b) ≤ 32
+row-few b = omega (arith, length-pins (b .count) (b .standing), b .few)
