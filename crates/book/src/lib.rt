@@ -2,6 +2,7 @@
 mod fault;
 mod line;
 mod reader;
+mod sheet;
 mod token;
 
 pub use fault::Fault;
