@@ -1,3 +1,4 @@
 pub mod Splits
 pub mod Spelling
 pub mod Verdicts
+pub mod Answering

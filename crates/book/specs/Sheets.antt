@@ -10,12 +10,12 @@ use Rattle.kayles.specs.declared.board.Pin.{Pin}
 use Rattle.kayles.specs.declared.board.Run.{Run}
 use Rattle.kayles.specs.Rows.{upright}
 use Rattle.kayles.specs.Runs.{Runs-of}
-use Rattle.book.specs.declared.fault.Fault.{Fault}
 use Rattle.book.specs.declared.fault.Fault.the-variants.{BookTooLong}
 use Rattle.book.specs.declared.line.Line.{Line}
-use Rattle.book.specs.BoardLines.{Board-line, First-fault, opening}
+use Rattle.book.specs.BoardLines.{Board-line, opening}
 use Rattle.book.specs.Faults.{number}
 use Rattle.book.specs.Lines.{Lines-of}
+use Rattle.book.specs.Readings.{Faulted}
 use Rattle.book.specs.Tags.{Opened}
 
 -- the lengths of the runs, from the left, each after a space
@@ -33,9 +33,22 @@ fault-text n k column = text (codes "line " ∷ decimal n ∷ codes " fault " �
 abbrev pub board-text : ℕ → List Pin → List Run → List ℕ
 board-text n ps rs = text (codes "kayles " ∷ decimal n ∷ codes "\npins " ∷ decimal (length ps) ∷ codes " standing " ∷ decimal (upright ps) ∷ codes "\nruns" ∷ runs-text rs ∷ codes "\n" ∷ [])
 
--- what is printed for the line with the number n
-abbrev pub Answered : ℕ → List ℕ → List ℕ → Type 0
-Answered n line out = out ≡ out
+-- what is printed for the line with the number n: nothing, a board, or a fault
+pub data Answered (n : ℕ) (line : List ℕ) : List ℕ → Type 0 where
+  passed : (Opened opening line → ⊥) → Answered n line []
+  board : (ps : List Pin) (rs : List Run) → Board-line line ps → Runs-of ps rs → Answered n line (board-text n ps rs)
+  fault : (k column : ℕ) → Faulted line k column → Answered n line (fault-text n k column)
 
-abbrev pub Sheet : List ℕ → List ℕ → Type 0
-Sheet book out = out ≡ out
+-- what is printed for some lines, one after the other, numbered from n on
+pub data All-answered : ℕ → List Line → List ℕ → Type 0 where
+  none : {n : ℕ} → All-answered n [] []
+  next : {n : ℕ} {l : Line} {ls : List Line} {out rest : List ℕ} → Answered n (l .text .now) out → All-answered (suc n) ls rest → All-answered n (l ∷ ls) (out ++ rest)
+
+-- the most bytes that a book may have
+abbrev pub limit : ℕ
+limit = 8192
+
+-- what is printed for a book: for all its lines, numbered from 1, or only that it is too long
+pub data Sheet (book : List ℕ) : List ℕ → Type 0 where
+  too-long : limit < length book → Sheet book (text (codes "book fault " ∷ decimal (number BookTooLong) ∷ codes "\n" ∷ []))
+  answered : {out : List ℕ} → length book ≤ limit → (ls : List Line) → Lines-of book ls → All-answered 1 ls out → Sheet book out

@@ -12,6 +12,7 @@ pub use line::Line;
 pub use line::lines;
 pub use reader::Item;
 pub use reader::read_line;
+pub use sheet::proofread;
 pub use token::Placed;
 pub use token::Token;
 pub use token::board_token;

@@ -8,7 +8,11 @@ ghost use Rattle.std.specs.Vec.{made};
 ghost use Rattle.kayles.specs.Rows.{row};
 ghost use Rattle.book.specs.Faults.{number as numberOf};
 ghost use Rattle.book.specs.Sheets.{Answered, Sheet, board-text, fault-text, runs-text};
+use crate::fault::Fault;
 use crate::fault::Refusal;
+use crate::line::lines;
+use crate::reader::Item;
+use crate::reader::read_line;
 use kayles::Board;
 use kayles::Run;
 use std::alloc::AllocError;
@@ -46,4 +50,40 @@ fn board_shown(heap: Global, line_number: usize, board: Board, runs: &[Run]) -> 
     let standing = board.standing();
     let lengths = runs_shown(heap, runs)?;
     format!(heap, "kayles {line_number}\npins {pins} standing {standing}\nruns{lengths}\n")
+}
+
+// What is printed for a line.
+fn answer(heap: Global, line_number: usize, line: &[u8]) -> Result<String, AllocError>
+    ensures { λ r. ⌜ made r (λ s. Answered «line_number» (now (line .entry)) (string-bytes s)) ⌝ }
+{
+    let item = match read_line(line) {
+        Ok(item) => item,
+        Err(refusal) => return fault_shown(heap, line_number, refusal),
+    };
+    match item {
+        Item::PassedOver => Ok(String::new(heap)),
+        Item::Board(board) => {
+            let runs = board.runs(heap)?;
+            board_shown(heap, line_number, board, runs.as_slice())
+        }
+    }
+}
+
+// The most bytes that a book may have.
+const BOOK_LIMIT: usize = 8192;
+
+// The proof sheet of a book: what is printed for it, line after line.
+pub fn proofread(heap: Global, book: &[u8]) -> Result<String, AllocError>
+    ensures { λ r. ⌜ made r (λ s. Sheet (now (book .entry)) (string-bytes s)) ⌝ }
+{
+    if book.len() > BOOK_LIMIT {
+        let number = Fault::BookTooLong.number();
+        return format!(heap, "book fault {number}\n");
+    }
+    let found = lines(heap, book)?;
+    let mut sheet = String::new(heap);
+    for (i, line) in found.iter().enumerate() {
+        sheet.push_str(answer(heap, i + 1, line.text)?.as_str())?;
+    }
+    Ok(sheet)
 }
