@@ -1,0 +1,17 @@
+// Reads a book from standard input and prints its proof sheet.
+use book::proofread;
+use std::error::AnyError;
+use std::io::Read;
+
+fn run(rt: &LibcRuntime) -> Result<(), AnyError> {
+    let heap = rt.alloc();
+    let mut book = Vec::new(heap);
+    rt.stdin().read_to_end(&mut book)?;
+    let sheet = proofread(heap, book.as_slice())?;
+    rt.print(sheet)?;
+    Ok(())
+}
+
+fn main(rt: LibcRuntime) -> Result<(), AnyError> {
+    rt.report(run(&rt))
+}
