@@ -2,3 +2,4 @@ pub mod Splits
 pub mod Spelling
 pub mod Verdicts
 pub mod Answering
+pub mod OneCut

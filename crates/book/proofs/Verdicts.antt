@@ -30,10 +30,10 @@ Found line (Err e) = First-fault line (e .fault) (e .column)
 same-text : (line t u : List ℕ) → Tagged opening line t → Tagged opening line u → t ≡ u
 same-text line t u a b = append-cancel-right t u closing (append-cancel-left opening (t ++ closing) (u ++ closing) (sym a ∙ b))
 
-board-opened : (line : List ℕ) (ps : List Pin) → Board-line line ps → Opened opening line
+pub board-opened : (line : List ℕ) (ps : List Pin) → Board-line line ps → Opened opening line
 board-opened line ps (text, tagged, shows, few) = (text ++ closing, tagged)
 
-fault-opened : (line : List ℕ) (f : Fault) (c : ℕ) → First-fault line f c → Opened opening line
+pub fault-opened : (line : List ℕ) (f : Fault) (c : ℕ) → First-fault line f c → Opened opening line
 fault-opened line f c (inl n) = n .opened
 fault-opened line f c (inr m) = (m .text ++ closing, m .tagged)
 
@@ -44,7 +44,7 @@ nothing-wrong ps k BookTooLong few h w = w
 nothing-wrong ps k TooManyPins few h w = absurd (omega arith)
 nothing-wrong ps k NotAPin few h w = w .1 (getD ps k Down) (shown-at ps k h)
 
-no-fault : (line : List ℕ) (ps : List Pin) (f : Fault) (c : ℕ) → Board-line line ps → First-fault line f c → ⊥
+pub no-fault : (line : List ℕ) (ps : List Pin) (f : Fault) (c : ℕ) → Board-line line ps → First-fault line f c → ⊥
 no-fault line ps f c (text, tagged, shows, few) (inl n) = n .unclosed text tagged
 no-fault line ps f c (text, tagged, shows, few) (inr m) =
     let same : m .text ≡ map letter ps = same-text line (m .text) text (m .tagged) tagged ∙ shows in

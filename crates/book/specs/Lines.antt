@@ -1,6 +1,6 @@
 -- The lines of a book. Assumes nothing.
 use mathlib.Core.Path.{_≡_}
-use mathlib.Core.List.{List, [], _∷_, _++_}
+use mathlib.Core.List.{List, [], _∷_, _++_, map}
 use mathlib.Core.Logic.{_⊎_}
 use Prim.Native.Nat.{ℕ, _<_}
 use lib.ListN.{length, getD}
@@ -56,6 +56,14 @@ In-order (l ∷ m ∷ ls) = Is-line l × Fed (l .ending) × In-order (m ∷ ls)
 pub record Lines-of (book : List ℕ) (ls : List Line) : Type 0 where
   pub together : joined whole ls ≡ book
   pub in-order : In-order ls
+
+-- a line's text and ending, wherever it lies
+abbrev pub plain : Line → List ℕ × Ending
+plain l = (l .text .now, l .ending)
+
+-- ls are the lines of the book, and there are no others
+abbrev pub The-lines : List ℕ → List Line → Type 0
+The-lines book ls = Lines-of book ls × ((ms : List Line) → Lines-of book ms → map plain ms ≡ map plain ls)
 
 -- l is the first line of the book, and rest is what comes after it
 pub record First-line (book : List ℕ) (l : Line) (rest : List ℕ) : Type 0 where

@@ -52,3 +52,7 @@ limit = 8192
 pub data Sheet (book : List ℕ) : List ℕ → Type 0 where
   too-long : limit < length book → Sheet book (text (codes "book fault " ∷ decimal (number BookTooLong) ∷ codes "\n" ∷ []))
   answered : {out : List ℕ} → length book ≤ limit → (ls : List Line) → Lines-of book ls → All-answered 1 ls out → Sheet book out
+
+-- out is what is printed for the book, and nothing else is
+abbrev pub The-sheet : List ℕ → List ℕ → Type 0
+The-sheet book out = Sheet book out × ((other : List ℕ) → Sheet book other → other ≡ out)

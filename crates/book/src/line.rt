@@ -5,7 +5,7 @@ ghost use Prim.Native.Nat.{ℕ, _<_, _≤_};
 ghost use Rattle.std.specs.Of.Vec.{vec-items};
 ghost use Rattle.std.specs.Options.{Cases};
 ghost use Rattle.std.specs.Vec.{made};
-ghost use Rattle.book.specs.Lines.{First-line, Lines-of};
+ghost use Rattle.book.specs.Lines.{First-line, The-lines};
 use std::alloc::AllocError;
 use std::alloc::Global;
 
@@ -57,7 +57,7 @@ fn first_line<'a>(book: &'a [u8]) -> Option<(Line<'a>, &'a [u8])>
 
 // The lines of a book, in order.
 pub fn lines<'a>(heap: Global, book: &'a [u8]) -> Result<Vec<Line<'a>>, AllocError>
-    ensures { λ r. ⌜ made r (λ v. Lines-of (now (book .entry)) (vec-items v)) ⌝ }
+    ensures { λ r. ⌜ made r (λ v. The-lines (now (book .entry)) (vec-items v)) ⌝ }
 {
     let mut found = Vec::new(heap);
     let mut rest = book;

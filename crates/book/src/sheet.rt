@@ -7,7 +7,7 @@ ghost use Rattle.std.specs.Of.Vec.{vec-items};
 ghost use Rattle.std.specs.Vec.{made};
 ghost use Rattle.kayles.specs.Rows.{row};
 ghost use Rattle.book.specs.Faults.{number as numberOf};
-ghost use Rattle.book.specs.Sheets.{Answered, Sheet, board-text, fault-text, runs-text};
+ghost use Rattle.book.specs.Sheets.{Answered, The-sheet, board-text, fault-text, runs-text};
 use crate::fault::Fault;
 use crate::fault::Refusal;
 use crate::line::lines;
@@ -74,7 +74,7 @@ const BOOK_LIMIT: usize = 8192;
 
 // The proof sheet of a book: what is printed for it, line after line.
 pub fn proofread(heap: Global, book: &[u8]) -> Result<String, AllocError>
-    ensures { λ r. ⌜ made r (λ s. Sheet (now (book .entry)) (string-bytes s)) ⌝ }
+    ensures { λ r. ⌜ made r (λ s. The-sheet (now (book .entry)) (string-bytes s)) ⌝ }
 {
     if book.len() > BOOK_LIMIT {
         let number = Fault::BookTooLong.number();

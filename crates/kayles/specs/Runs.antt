@@ -27,6 +27,10 @@ pub record Runs-of (ps : List Pin) (rs : List Run) : Type 0 where
   pub order : (j k : ℕ) → j < k → k < length rs → getD rs j no-run .first < getD rs k no-run .first
   pub all : (r : Run) → Is-run ps r → (k : ℕ) × (k < length rs) × (getD rs k no-run ≡ r)
 
+-- rs is the list of the runs, and there is no other
+abbrev pub The-runs : List Pin → List Run → Type 0
+The-runs ps rs = Runs-of ps rs × ((qs : List Run) → Runs-of ps qs → qs ≡ rs)
+
 -- the list with the run of n pins that ends at pin `last`, unless n is 0
 abbrev pub closed : List Run → ℕ → ℕ → List Run
 closed rs last zero = rs

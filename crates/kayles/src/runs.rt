@@ -2,10 +2,9 @@ ghost use mathlib.Core.Bool.{true};
 ghost use mathlib.Core.Path.{_≡_};
 ghost use Prim.Native.Nat.{_≤_};
 ghost use Rattle.std.specs.Of.Vec.{vec-items};
-ghost use Rattle.std.specs.Results.{Cases};
 ghost use Rattle.std.specs.Vec.{made};
 ghost use Rattle.kayles.specs.Rows.{row};
-ghost use Rattle.kayles.specs.Runs.{Runs-of, Stands, closed};
+ghost use Rattle.kayles.specs.Runs.{Stands, The-runs, closed};
 use crate::board::Board;
 use crate::board::Run;
 use std::alloc::AllocError;
@@ -35,7 +34,7 @@ impl Board {
 
     // The runs, from the left.
     pub fn runs(self, heap: Global) -> Result<Vec<Run>, AllocError>
-        ensures { λ r. ⌜ made r (λ v. Runs-of (row self) (vec-items v)) ⌝ }
+        ensures { λ r. ⌜ made r (λ v. The-runs (row self) (vec-items v)) ⌝ }
     {
         let mut runs = Vec::new(heap);
         let mut len = 0;

@@ -1,4 +1,5 @@
 use mathlib.Core.Path.{sym, subst}
+use Rattle.book.proofs.OneCut.{same-lines}
 use Rattle.book.proofs.Splits.{Sofar, sofar-none, sofar-more, sofar-all, shorter}
 use Rattle.book.proofs.line.lines.Needs as need
 
@@ -14,4 +15,4 @@ pub loop-line-less : need.loop-line-less
 loop-line-less c = shorter _ _ _ (c .in-Some .ensures tt)
 
 pub returns : need.returns
-returns c = sofar-all _ _ _ (c .in-rest .ensures tt) (c .loop-line .inv)
+returns c = let is = sofar-all _ _ _ (c .in-rest .ensures tt) (c .loop-line .inv) in (is, λ ms m. same-lines _ ms _ m is)

@@ -34,6 +34,6 @@ returns-in-Continue-runs c =
     let b = c .in-Board .board in
     let told = subst (λ i. Reads line (Ok i)) (c .in-Board .is) (c .in-Ok .ensures tt) in
     let shown : Board-line line (row b) = told .accepted (row b) .only-if (b, refl, refl) in
-    let runs = subst (Runs-of (row b)) (sym (c .as-slice .ensures .value)) (c .in-Continue-runs .ensures tt) in
+    let runs = subst (Runs-of (row b)) (sym (c .as-slice .ensures .value)) (c .in-Continue-runs .ensures tt .0) in
     made-weaker (c .board-shown .result) _ (λ s. Answered (c .args .line-number) line (string-bytes s))
     (λ s p. subst (Answered (c .args .line-number) line) (sym p) (board (row b) (c .as-slice .result .now) shown runs)) (c .board-shown .ensures)

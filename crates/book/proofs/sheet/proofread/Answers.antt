@@ -1,7 +1,7 @@
 use mathlib.Core.Path.{_≡_, refl, sym, ap, subst, _∙_}
 use mathlib.Core.List.{List, [], _∷_, _++_}
 use native.Mathlib.Omega.{arith}
-use Prim.Native.Nat.{_+_}
+use Prim.Native.Nat.{ℕ, _+_}
 use lib.Chars.{codes}
 use lib.ListN.{take}
 use Rattle.std.specs.Of.String.{string-bytes}
@@ -10,14 +10,17 @@ use Rattle.std.proofs.shelf.Lists.{take-all}
 use Rattle.std.proofs.shelf.Parts.{pushed}
 use Rattle.std.proofs.shelf.Results.{made-weaker}
 use Rattle.book.specs.Lines.{Lines-of}
-use Rattle.book.specs.Sheets.{Sheet, All-answered, none, too-long, answered}
-use Rattle.book.proofs.Answering.{answered-turn}
+use Rattle.book.specs.Sheets.{Sheet, The-sheet, All-answered, none, too-long, answered}
+use Rattle.book.proofs.Answering.{answered-turn, same-sheet}
 use Rattle.book.proofs.sheet.proofread.Needs as need
+
+the-sheet : (book out : List ℕ) → Sheet book out → The-sheet book out
+the-sheet book out s = (s, λ other t. same-sheet book other out t s)
 
 pub returns-then-book-gt-BOOK-LIMIT : need.returns-then-book-gt-BOOK-LIMIT
 returns-then-book-gt-BOOK-LIMIT c =
-    made-weaker (c .format .result) _ (λ s. Sheet (c .args .book .now) (string-bytes s))
-    (λ s e. subst (Sheet (c .args .book .now)) (ap (λ k. text (codes "book fault " ∷ decimal k ∷ codes "\n" ∷ [])) (sym (c .number-number .ensures)) ∙ sym e) (too-long (c .if-book-gt-BOOK-LIMIT .taken)))
+    made-weaker (c .format .result) _ (λ s. The-sheet (c .args .book .now) (string-bytes s))
+    (λ s e. the-sheet _ _ (subst (Sheet (c .args .book .now)) (ap (λ k. text (codes "book fault " ∷ decimal k ∷ codes "\n" ∷ [])) (sym (c .number-number .ensures)) ∙ sym e) (too-long (c .if-book-gt-BOOK-LIMIT .taken))))
     (c .format .ensures .made)
 
 pub loop-i-holds : need.loop-i-holds
@@ -33,5 +36,5 @@ loop-i-again c =
 pub returns : need.returns
 returns c =
     let ls = c .deref-line-items .result .now in
-    answered (c .if-book-gt-BOOK-LIMIT .left) ls (subst (Lines-of (c .args .book .now)) (sym (c .deref-line-items .ensures .value)) (c .in-Continue-found .ensures tt))
-    (subst (λ x. All-answered 1 x (string-bytes (c .loop-i .sheet))) (take-all (c .loop-i .i) ls (c .loop-i-test .left)) (c .loop-i .inv))
+    the-sheet _ _ (answered (c .if-book-gt-BOOK-LIMIT .left) ls (subst (Lines-of (c .args .book .now)) (sym (c .deref-line-items .ensures .value)) (c .in-Continue-found .ensures tt .0))
+    (subst (λ x. All-answered 1 x (string-bytes (c .loop-i .sheet))) (take-all (c .loop-i .i) ls (c .loop-i-test .left)) (c .loop-i .inv)))

@@ -6,6 +6,7 @@ use Rattle.std.specs.Of.Vec.{vec-items}
 use Rattle.kayles.specs.Rows.{row}
 use Rattle.kayles.specs.Runs.{Runs-of}
 use Rattle.kayles.proofs.Masks.{length-pins}
+use Rattle.kayles.proofs.Sorting.{same-runs}
 use Rattle.kayles.proofs.Stretches.{Walked, walked-none, walked-up, walked-down, walked-end}
 use Rattle.kayles.proofs.board.Board.runs.Needs as need
 use Rattle.kayles.proofs.board.Board.runs.Needs.{then-stands, else-stands·in-Continue-close}
@@ -29,5 +30,7 @@ close-requires-2 c κs = omega (arith, c .loop-passed .inv .within)
 pub returns : need.returns
 returns c =
     let ps = row (c .args .self) in
-    subst (Runs-of ps) (sym (c .in-Continue-close-2 .ensures tt))
-    (walked-end ps (c .loop-passed .passed) (c .args .self .count) _ _ (omega (arith, c .loop-passed .kept .passed-end, c .loop-passed-test .left)) (length-pins (c .args .self .count) (c .args .self .standing)) (c .loop-passed .inv))
+    let is =
+      subst (Runs-of ps) (sym (c .in-Continue-close-2 .ensures tt))
+      (walked-end ps (c .loop-passed .passed) (c .args .self .count) _ _ (omega (arith, c .loop-passed .kept .passed-end, c .loop-passed-test .left)) (length-pins (c .args .self .count) (c .args .self .standing)) (c .loop-passed .inv)) in
+    (is, λ qs q. same-runs ps qs _ q is)
