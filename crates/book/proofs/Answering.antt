@@ -1,4 +1,4 @@
--- One line more on the sheet; and a book has one sheet. Assumes nothing.
+-- One line more in the report; and a book has one report. Assumes nothing.
 use mathlib.Core.Path.{_≡_, refl, sym, ap, ap₂, subst, _∙_}
 use mathlib.Core.List.{List, [], _∷_, _++_, map, append-assoc, append-nil}
 use Prim.Native.Nat.{ℕ, suc, _+_, _<_}
@@ -10,7 +10,7 @@ use Rattle.kayles.specs.Runs.{Runs-of}
 use Rattle.kayles.proofs.Sorting.{same-runs}
 use Rattle.book.specs.Faults.{number}
 use Rattle.book.specs.Lines.{plain}
-use Rattle.book.specs.Sheets.{Answered, passed, board, fault, All-answered, none, next, Sheet, too-long, answered, board-text, fault-text}
+use Rattle.book.specs.Reports.{Answered, passed, board, fault, All-answered, none, next, Report, too-long, answered, board-text, fault-text}
 use Rattle.book.proofs.OneCut.{same-lines}
 use Rattle.book.proofs.Verdicts.{board-opened, fault-opened, no-fault, same-board, same-fault}
 
@@ -26,7 +26,7 @@ pub answered-turn : (ls : List Line) (i : ℕ) (d : Line) (out a : List ℕ) →
 answered-turn ls i d out a h q p =
     subst (λ x. All-answered 1 x (out ++ a)) (sym (take-more ls i d h))
     (answered-more 1 (take i ls) out (getD ls i d) a q
-      (subst (λ k. Answered k (getD ls i d .text .now) a) (let e : i + 1 ≡ 1 + length (take i ls) = omega (arith, length-take-le i ls (omega arith)) in e) p))
+    (subst (λ k. Answered k (getD ls i d .text .now) a) (let e : i + 1 ≡ 1 + length (take i ls) = omega (arith, length-take-le i ls (omega arith)) in e) p))
 
 -- a line has one answer
 same-answer : (n : ℕ) (line a b : List ℕ) → Answered n line a → Answered n line b → a ≡ b
@@ -55,8 +55,8 @@ same-answers n (l ∷ ls) (m ∷ ms) a b e (next {out = o} {rest = r} p q) (next
     (same-answer n (m .text .now) o u (subst (λ x. Answered n x o) (ap (λ x. x .0) first) p) s)
     (same-answers (suc n) ls ms r v others q t)
 
-pub same-sheet : (book a b : List ℕ) → Sheet book a → Sheet book b → a ≡ b
-same-sheet book a b (too-long h) (too-long k) = refl
-same-sheet book a b (too-long h) (answered k ls l p) = absurd (omega arith)
-same-sheet book a b (answered h ls l p) (too-long k) = absurd (omega arith)
-same-sheet book a b (answered h ls l p) (answered k ms m q) = same-answers 1 ls ms a b (same-lines book ls ms l m) p q
+pub same-report : (book a b : List ℕ) → Report book a → Report book b → a ≡ b
+same-report book a b (too-long h) (too-long k) = refl
+same-report book a b (too-long h) (answered k ls l p) = absurd (omega arith)
+same-report book a b (answered h ls l p) (too-long k) = absurd (omega arith)
+same-report book a b (answered h ls l p) (answered k ms m q) = same-answers 1 ls ms a b (same-lines book ls ms l m) p q

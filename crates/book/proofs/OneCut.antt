@@ -60,6 +60,7 @@ body-unbroken l i = go (l .ending)
   where
     text : Unbroken (l .text .now)
     text = unbroken (l .text .now) (i .unbroken)
+
     go : (e : Ending) → Unbroken (l .text .now ++ returns e)
     go Feed = subst Unbroken (sym (append-nil (l .text .now))) text
     go End = subst Unbroken (sym (append-nil (l .text .now))) text
@@ -72,6 +73,7 @@ whole-is l = go (l .ending)
   where
     t : List ℕ
     t = l .text .now
+
     go : (e : Ending) → (Fed e × (t ++ mark e ≡ (t ++ returns e) ++ LF ∷ [])) ⊎ ((Fed e → ⊥) × (t ++ mark e ≡ t ++ returns e))
     go Feed = inl (tt, ap (λ x. x ++ LF ∷ []) (sym (append-nil t)))
     go ReturnFeed = inl (tt, sym (append-assoc t (CR ∷ []) (LF ∷ [])))
@@ -125,14 +127,19 @@ same-front l m ls ms o p e = go (whole-is l) (whole-is m)
   where
     i : Is-line l
     i = first-is l ls o
+
     j : Is-line m
     j = first-is m ms p
+
     Ends : Line → Type 0
     Ends x = (Fed (x .ending) × (whole x ≡ body x ++ LF ∷ [])) ⊎ ((Fed (x .ending) → ⊥) × (whole x ≡ body x))
+
     fed : (x : Line) (xs : List Line) → whole x ≡ body x ++ LF ∷ [] → whole x ++ joined whole xs ≡ body x ++ LF ∷ joined whole xs
     fed x xs w = ap (λ y. y ++ joined whole xs) w ∙ append-assoc (body x) (LF ∷ []) (joined whole xs)
+
     last : (x : Line) (xs : List Line) → In-order (x ∷ xs) → (Fed (x .ending) → ⊥) → whole x ≡ body x → whole x ++ joined whole xs ≡ body x
     last x xs o n w = ap (λ ys. whole x ++ joined whole ys) (last-only x xs o n) ∙ append-nil (whole x) ∙ w
+
     go : Ends l → Ends m → (plain l ≡ plain m) × (joined whole ls ≡ joined whole ms)
     go (inl v) (inl w) =
         let s = same-feed (body l) (body m) (joined whole ls) (joined whole ms) (body-unbroken l i) (body-unbroken m j) (sym (fed l ls (v .1)) ∙ e ∙ fed m ms (w .1)) in
@@ -140,9 +147,10 @@ same-front l m ls ms o p e = go (whole-is l) (whole-is m)
     go (inl v) (inr w) = absurd (no-feed (body l) (body m) (joined whole ls) (body-unbroken m j) (sym (fed l ls (v .1)) ∙ e ∙ last m ms p (w .0) (w .1)))
     go (inr v) (inl w) = absurd (no-feed (body m) (body l) (joined whole ms) (body-unbroken l i) (sym (fed m ms (w .1)) ∙ sym e ∙ last l ls o (v .0) (v .1)))
     go (inr v) (inr w) =
-        let s : body l ≡ body m = sym (last l ls o (v .0) (v .1)) ∙ e ∙ last m ms p (w .0) (w .1) in
-        (same-line (l .text .now) (m .text .now) (l .ending) (m .ending) s (λ f. absurd (v .0 f)) (λ f. absurd (w .0 f)) (i .stripped) (j .stripped),
-         ap (joined whole) (last-only l ls o (v .0)) ∙ sym (ap (joined whole) (last-only m ms p (w .0))))
+        let s : body l ≡ body m = sym (last l ls o (v .0) (v .1)) ∙ e ∙ last m ms p (w .0) (w .1) in (
+          same-line (l .text .now) (m .text .now) (l .ending) (m .ending) s (λ f. absurd (v .0 f)) (λ f. absurd (w .0 f)) (i .stripped) (j .stripped),
+          ap (joined whole) (last-only l ls o (v .0)) ∙ sym (ap (joined whole) (last-only m ms p (w .0))),
+        )
 
 same-order : (ls ms : List Line) → In-order ls → In-order ms → joined whole ls ≡ joined whole ms → map plain ls ≡ map plain ms
 same-order [] [] o p e = refl

@@ -43,15 +43,16 @@ module _ (text : List ℕ) (i : ℕ) (ps : List Pin) (shown : take i text ≡ ma
   -- the first byte with which something is wrong
   pub first-wrong : (f : Fault) (skipped column : ℕ) → i < length text → length ps ≤ 32 → Wrong (length ps) (getD text i 0) f → column ≡ skipped + i + 1 → First-wrong text skipped f column
   first-wrong f skipped column h few w e = record {
-      at = i;
-      within = h;
-      here = subst (λ n. Wrong n (getD text i 0) f) long w;
-      before = none;
-      place = e;
-    }
+    at = i;
+    within = h;
+    here = subst (λ n. Wrong n (getD text i 0) f) long w;
+    before = none;
+    place = e;
+  }
     where
       long : length ps ≡ i
       long = shown-long (omega arith)
+
       none : (k : ℕ) (g : Fault) → k < i → Wrong k (getD text k 0) g → ⊥
       none k Unclosed l v = v
       none k BookTooLong l v = v

@@ -32,35 +32,35 @@ module _ {book body tail : List ℕ} (c : Cut book body tail) where
 
   pub return-feed : (text : RefT (List ℕ)) (x : ℕ) (rest : List ℕ) → body ≡ text .now ++ CR ∷ [] → tail ≡ x ∷ rest → First-line book (record { text = text; ending = ReturnFeed }) rest
   return-feed text x rest b t = record {
-      together = append-assoc (text .now) (CR ∷ LF ∷ []) rest ∙ sym (append-assoc (text .now) (CR ∷ []) (LF ∷ rest)) ∙ sym (ap₂ _++_ b (fed t)) ∙ sym (c .whole);
-      is-line = record { unbroken = clean-front (text .now) b; stripped = λ f e. tt };
-      some = omega (arith, length-append (text .now) (CR ∷ LF ∷ []));
-      ends = inl tt;
-    }
+    together = append-assoc (text .now) (CR ∷ LF ∷ []) rest ∙ sym (append-assoc (text .now) (CR ∷ []) (LF ∷ rest)) ∙ sym (ap₂ _++_ b (fed t)) ∙ sym (c .whole);
+    is-line = record { unbroken = clean-front (text .now) b; stripped = λ f e. tt };
+    some = omega (arith, length-append (text .now) (CR ∷ LF ∷ []));
+    ends = inl tt;
+  }
 
   pub return-end : (text : RefT (List ℕ)) → body ≡ text .now ++ CR ∷ [] → length tail ≡ 0 → First-line book (record { text = text; ending = ReturnEnd }) tail
   return-end text b t = record {
-      together = ap (λ l. l ++ tail) (sym b) ∙ sym (c .whole);
-      is-line = record { unbroken = clean-front (text .now) b; stripped = λ f e. tt };
-      some = omega (arith, length-append (text .now) (CR ∷ []));
-      ends = inr (nil-from-length tail t);
-    }
+    together = ap (λ l. l ++ tail) (sym b) ∙ sym (c .whole);
+    is-line = record { unbroken = clean-front (text .now) b; stripped = λ f e. tt };
+    some = omega (arith, length-append (text .now) (CR ∷ []));
+    ends = inr (nil-from-length tail t);
+  }
 
   pub plain-feed : (text : RefT (List ℕ)) (x : ℕ) (rest : List ℕ) → text .now ≡ body → ((front : List ℕ) → body ≡ front ++ CR ∷ [] → ⊥) → tail ≡ x ∷ rest → First-line book (record { text = text; ending = Feed }) rest
   plain-feed text x rest b n t = record {
-      together = append-assoc (text .now) (LF ∷ []) rest ∙ sym (ap₂ _++_ (sym b) (fed t)) ∙ sym (c .whole);
-      is-line = record { unbroken = subst (λ l. (k : ℕ) → k < length l → getD l k 0 ≡ LF → ⊥) (sym b) (c .clean); stripped = λ f e. n f (sym b ∙ e) };
-      some = omega (arith, length-append (text .now) (LF ∷ []));
-      ends = inl tt;
-    }
+    together = append-assoc (text .now) (LF ∷ []) rest ∙ sym (ap₂ _++_ (sym b) (fed t)) ∙ sym (c .whole);
+    is-line = record { unbroken = subst (λ l. (k : ℕ) → k < length l → getD l k 0 ≡ LF → ⊥) (sym b) (c .clean); stripped = λ f e. n f (sym b ∙ e) };
+    some = omega (arith, length-append (text .now) (LF ∷ []));
+    ends = inl tt;
+  }
 
   pub plain-end : (text : RefT (List ℕ)) → text .now ≡ body → ((front : List ℕ) → body ≡ front ++ CR ∷ [] → ⊥) → length tail ≡ 0 → First-line book (record { text = text; ending = End }) tail
   plain-end text b n t = record {
-      together = ap (λ l. l ++ tail) (append-nil (text .now) ∙ b) ∙ sym (c .whole);
-      is-line = record { unbroken = subst (λ l. (k : ℕ) → k < length l → getD l k 0 ≡ LF → ⊥) (sym b) (c .clean); stripped = λ f e. n f (sym b ∙ e) };
-      some = omega (arith, ap length (append-nil (text .now)), ap length b, ap length (ended t), c .some);
-      ends = inr (nil-from-length tail t);
-    }
+    together = ap (λ l. l ++ tail) (append-nil (text .now) ∙ b) ∙ sym (c .whole);
+    is-line = record { unbroken = subst (λ l. (k : ℕ) → k < length l → getD l k 0 ≡ LF → ⊥) (sym b) (c .clean); stripped = λ f e. n f (sym b ∙ e) };
+    some = omega (arith, ap length (append-nil (text .now)), ap length b, ap length (ended t), c .some);
+    ends = inr (nil-from-length tail t);
+  }
 
 -- lines that each end in a line feed
 abbrev pub All-fed : List Line → Type 0

@@ -91,29 +91,29 @@ apart z = absurd (omega arith)
 
 pub reads : (line : List ℕ) (r : Reading) → Found line r → Reads line r
 reads line (Ok PassedOver) n = record {
-    passed = record { only-if = λ e. n; if = λ m. refl };
-    accepted = λ ps. record { only-if = λ (b, e, q). absurd (apart (cc)); if = λ l. absurd (n (board-opened line ps l)) };
-    refused = λ k c. record { only-if = λ (x, e, q, p). absurd (apart (cc)); if = λ (f, q, l). absurd (n (fault-opened line f c l)) };
-    tied = λ o. absurd (n o);
-  }
+  passed = record { only-if = λ e. n; if = λ m. refl };
+  accepted = λ ps. record { only-if = λ (b, e, q). absurd (apart (cc)); if = λ l. absurd (n (board-opened line ps l)) };
+  refused = λ k c. record { only-if = λ (x, e, q, p). absurd (apart (cc)); if = λ (f, q, l). absurd (n (fault-opened line f c l)) };
+  tied = λ o. absurd (n o);
+}
 reads line (Ok (Board b)) l = record {
-    passed = record { only-if = λ e. absurd (apart (cc)); if = λ n. absurd (n (board-opened line (row b) l)) };
-    accepted = λ ps. record {
-      only-if = λ (d, e, q). subst (Board-line line) (let same : b ≡ d = cc in ap row same ∙ q) l;
-      if = λ m. (b, refl, same-board line (row b) ps l m)
-    };
-    refused = λ k c. record { only-if = λ (x, e, q, p). absurd (apart (cc)); if = λ (f, q, m). absurd (no-fault line (row b) f c l m) };
-    tied = λ o. record { only-if = λ h k c (f, q, m). no-fault line (row b) f c l m; if = λ h. (row b, l) };
-  }
+  passed = record { only-if = λ e. absurd (apart (cc)); if = λ n. absurd (n (board-opened line (row b) l)) };
+  accepted = λ ps. record {
+    only-if = λ (d, e, q). subst (Board-line line) (let same : b ≡ d = cc in ap row same ∙ q) l;
+    if = λ m. (b, refl, same-board line (row b) ps l m);
+  };
+  refused = λ k c. record { only-if = λ (x, e, q, p). absurd (apart (cc)); if = λ (f, q, m). absurd (no-fault line (row b) f c l m) };
+  tied = λ o. record { only-if = λ h k c (f, q, m). no-fault line (row b) f c l m; if = λ h. (row b, l) };
+}
 reads line (Err e) l = record {
-    passed = record { only-if = λ q. absurd (apart (cc)); if = λ n. absurd (n (fault-opened line (e .fault) (e .column) l)) };
-    accepted = λ ps. record { only-if = λ (b, q, p). absurd (apart (cc)); if = λ m. absurd (no-fault line ps (e .fault) (e .column) m l) };
-    refused = λ k c. record {
-      only-if = λ (x, q, n, p). let same : e ≡ x = cc in (e .fault, ap (λ y. number (y .fault)) same ∙ n, subst (First-fault line (e .fault)) (ap (λ y. y .column) same ∙ p) l);
-      if = λ (f, n, m). let s = same-fault line (e .fault) f (e .column) c l m in (e, refl, ap number (s .0) ∙ n, s .1)
-    };
-    tied = λ o. record {
-      only-if = λ (ps, m). absurd (no-fault line ps (e .fault) (e .column) m l);
-      if = λ h. absurd (h (number (e .fault)) (e .column) (e .fault, refl, l))
-    };
-  }
+  passed = record { only-if = λ q. absurd (apart (cc)); if = λ n. absurd (n (fault-opened line (e .fault) (e .column) l)) };
+  accepted = λ ps. record { only-if = λ (b, q, p). absurd (apart (cc)); if = λ m. absurd (no-fault line ps (e .fault) (e .column) m l) };
+  refused = λ k c. record {
+    only-if = λ (x, q, n, p). let same : e ≡ x = cc in (e .fault, ap (λ y. number (y .fault)) same ∙ n, subst (First-fault line (e .fault)) (ap (λ y. y .column) same ∙ p) l);
+    if = λ (f, n, m). let s = same-fault line (e .fault) f (e .column) c l m in (e, refl, ap number (s .0) ∙ n, s .1);
+  };
+  tied = λ o. record {
+    only-if = λ (ps, m). absurd (no-fault line ps (e .fault) (e .column) m l);
+    if = λ h. absurd (h (number (e .fault)) (e .column) (e .fault, refl, l));
+  };
+}

@@ -2,6 +2,6 @@ pub mod BoardLines
 pub mod Faults
 pub mod Lines
 pub mod Readings
-pub mod Sheets
+pub mod Reports
 pub mod Tags
 pub mod Tokens

@@ -1,8 +1,8 @@
-// The book of boards: its lines, what a line says, and the proof sheet for the press.
+// The book of boards: its lines, what a line says, and the report that a proofreader gets.
 mod fault;
 mod line;
 mod reader;
-mod sheet;
+mod report;
 mod token;
 
 pub use fault::Fault;
@@ -12,7 +12,7 @@ pub use line::Line;
 pub use line::lines;
 pub use reader::Item;
 pub use reader::read_line;
-pub use sheet::proofread;
+pub use report::proofread;
 pub use token::Placed;
 pub use token::Token;
 pub use token::board_token;

@@ -48,10 +48,34 @@ fn first_line<'a>(book: &'a [u8]) -> Option<(Line<'a>, &'a [u8])>
     }
     let (body, tail) = book.split_at(feed_at(book));
     match (body.strip_suffix(b"\r"), tail.split_first()) {
-        (Some(text), Some((_, rest))) => Some((Line { text, ending: Ending::ReturnFeed }, rest)),
-        (None, Some((_, rest))) => Some((Line { text: body, ending: Ending::Feed }, rest)),
-        (Some(text), None) => Some((Line { text, ending: Ending::ReturnEnd }, tail)),
-        (None, None) => Some((Line { text: body, ending: Ending::End }, tail)),
+        (Some(text), Some((_, rest))) => Some((
+            Line {
+                text,
+                ending: Ending::ReturnFeed,
+            },
+            rest,
+        )),
+        (None, Some((_, rest))) => Some((
+            Line {
+                text: body,
+                ending: Ending::Feed,
+            },
+            rest,
+        )),
+        (Some(text), None) => Some((
+            Line {
+                text,
+                ending: Ending::ReturnEnd,
+            },
+            tail,
+        )),
+        (None, None) => Some((
+            Line {
+                text: body,
+                ending: Ending::End,
+            },
+            tail,
+        )),
     }
 }
 

@@ -10,6 +10,7 @@ use crate::fault::Refusal;
 use crate::token::Token;
 use crate::token::board_token;
 use kayles::Board;
+use kayles::MOST_PINS;
 
 // What a line says that is not refused.
 #[derive(Clone, Copy)]
@@ -22,14 +23,20 @@ pub enum Item {
 fn grown(board: Board, byte: &u8, column: usize) -> Result<Board, Refusal>
     ensures { λ r. ⌜ Grown board (now (byte .entry)) column r ⌝ }
 {
-    let full = Refusal { fault: Fault::TooManyPins, column };
-    if board.len() >= 32 {
+    let full = Refusal {
+        fault: Fault::TooManyPins,
+        column,
+    };
+    if board.len() >= MOST_PINS {
         return Err(full);
     }
     let placed = board_token(byte, column);
     match placed.token {
         Token::Pin(pin, _) => board.with(pin).ok_or(full),
-        Token::Stray(_) => Err(Refusal { fault: Fault::NotAPin, column: placed.column }),
+        Token::Stray(_) => Err(Refusal {
+            fault: Fault::NotAPin,
+            column: placed.column,
+        }),
     }
 }
 
@@ -53,7 +60,10 @@ pub fn read_line(line: &[u8]) -> Result<Item, Refusal>
         return Ok(Item::PassedOver);
     };
     let Some(text) = rest.strip_suffix(b"\"]") else {
-        return Err(Refusal { fault: Fault::Unclosed, column: line.len() });
+        return Err(Refusal {
+            fault: Fault::Unclosed,
+            column: line.len(),
+        });
     };
     Ok(Item::Board(read_board(text, 9)?))
 }

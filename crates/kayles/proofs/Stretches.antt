@@ -50,30 +50,31 @@ pub record Walked (ps : List Pin) (i n : ℕ) (rs : List Run) : Type 0 where
 
 pub walked-none : (ps : List Pin) → Walked ps 0 0 []
 walked-none ps = record {
-    within = omega arith;
-    stand = λ k a b. absurd (omega arith);
-    before = no-pin-0 ps;
-    each = λ k l. absurd (omega arith);
-    ended = λ k l. absurd (omega arith);
-    order = λ j k a l. absurd (omega arith);
-    all = λ r s e. absurd (omega (arith, s .some));
-  }
+  within = omega arith;
+  stand = λ k a b. absurd (omega arith);
+  before = no-pin-0 ps;
+  each = λ k l. absurd (omega arith);
+  ended = λ k l. absurd (omega arith);
+  order = λ j k a l. absurd (omega arith);
+  all = λ r s e. absurd (omega (arith, s .some));
+}
 
 -- one more pin that stands
 pub walked-up : (ps : List Pin) (i n : ℕ) (rs : List Run) → Walked ps i n rs → Stands ps (i + 1) → Walked ps (i + 1) (n + 1) rs
 walked-up ps i n rs w s = record {
-    within = omega (arith, w .within);
-    stand = λ k a b. at k (omega (arith, w .within)) b (order k (i + 1));
-    before = λ t. w .before (subst (Stands ps) (let e : i + 1 - (n + 1) ≡ i - n = omega arith in e) t);
-    each = w .each;
-    ended = λ k l. omega (arith, w .ended k l);
-    order = w .order;
-    all = λ r t e. found r t e (order (r .first + r .len) (i + 1));
-  }
+  within = omega (arith, w .within);
+  stand = λ k a b. at k (omega (arith, w .within)) b (order k (i + 1));
+  before = λ t. w .before (subst (Stands ps) (let e : i + 1 - (n + 1) ≡ i - n = omega arith in e) t);
+  each = w .each;
+  ended = λ k l. omega (arith, w .ended k l);
+  order = w .order;
+  all = λ r t e. found r t e (order (r .first + r .len) (i + 1));
+}
   where
     at : (k : ℕ) → i - n < k → k ≤ i + 1 → (k < i + 1) ⊎ (i + 1 ≤ k) → Stands ps k
     at k a b (inl h) = w .stand k a (omega arith)
     at k a b (inr h) = subst (Stands ps) (let e : i + 1 ≡ k = omega arith in e) s
+
     found : (r : Run) → Is-run ps r → r .first + r .len ≤ i + 1 → (r .first + r .len < i + 1) ⊎ (i + 1 ≤ r .first + r .len) → (k : ℕ) × (k < length rs) × (getD rs k no-run ≡ r)
     found r t e (inl h) = w .all r t (omega arith)
     found r t e (inr h) = absurd (t .after (subst (Stands ps) (let e : i + 1 ≡ r .first + r .len = omega arith in e) s))
@@ -93,11 +94,11 @@ module _ (ps : List Pin) (i n : ℕ) (rs : List Run) (w : Walked ps i (suc n) rs
   last-is : Is-run ps last-run
   unfolding last-run
   last-is = record {
-      some = omega arith;
-      stand = λ k a b. w .stand k (omega (arith, w .within)) (omega (arith, w .within));
-      before = λ t. w .before (subst (Stands ps) (let e : i - n - 1 ≡ i - suc n = omega arith in e) t);
-      after = λ t. d (subst (Stands ps) (let e : i - n + suc n ≡ i + 1 = omega (arith, w .within) in e) t);
-    }
+    some = omega arith;
+    stand = λ k a b. w .stand k (omega (arith, w .within)) (omega (arith, w .within));
+    before = λ t. w .before (subst (Stands ps) (let e : i - n - 1 ≡ i - suc n = omega arith in e) t);
+    after = λ t. d (subst (Stands ps) (let e : i - n + suc n ≡ i + 1 = omega (arith, w .within) in e) t);
+  }
 
   -- a run that ends at pin i is the last one
   same-end : (r : Run) → Is-run ps r → r .first + r .len ≡ i + 1 → last-run ≡ r
@@ -139,27 +140,27 @@ module _ (ps : List Pin) (i n : ℕ) (rs : List Run) (w : Walked ps i (suc n) rs
   closed-run : Walked ps (i + 1) 0 (closed rs i (suc n))
   unfolding last-run
   closed-run = record {
-      within = omega arith;
-      stand = λ k a b. absurd (omega arith);
-      before = λ t. d (subst (Stands ps) (let e : i + 1 - 0 ≡ i + 1 = omega arith in e) t);
-      each = each-push (Is-run ps) rs last-run (w .each) last-is;
-      ended = each-push (λ r. r .first + r .len ≤ i + 1) rs last-run (λ k l. omega (arith, w .ended k l)) (omega (arith, w .within));
-      order = order-push;
-      all = found-push;
-    }
+    within = omega arith;
+    stand = λ k a b. absurd (omega arith);
+    before = λ t. d (subst (Stands ps) (let e : i + 1 - 0 ≡ i + 1 = omega arith in e) t);
+    each = each-push (Is-run ps) rs last-run (w .each) last-is;
+    ended = each-push (λ r. r .first + r .len ≤ i + 1) rs last-run (λ k l. omega (arith, w .ended k l)) (omega (arith, w .within));
+    order = order-push;
+    all = found-push;
+  }
 
 -- a pin that does not stand, or the row's end, ends the run before it
 pub walked-down : (ps : List Pin) (i n : ℕ) (rs : List Run) → Walked ps i n rs → (Stands ps (i + 1) → ⊥) → Walked ps (i + 1) 0 (closed rs i n)
 walked-down ps i (suc n) rs w d = closed-run ps i n rs w d
 walked-down ps i zero rs w d = record {
-    within = omega arith;
-    stand = λ k a b. absurd (omega arith);
-    before = λ t. d (subst (Stands ps) (let e : i + 1 - 0 ≡ i + 1 = omega arith in e) t);
-    each = w .each;
-    ended = λ k l. omega (arith, w .ended k l);
-    order = w .order;
-    all = λ r t e. found r t e (order (r .first + r .len) (i + 1));
-  }
+  within = omega arith;
+  stand = λ k a b. absurd (omega arith);
+  before = λ t. d (subst (Stands ps) (let e : i + 1 - 0 ≡ i + 1 = omega arith in e) t);
+  each = w .each;
+  ended = λ k l. omega (arith, w .ended k l);
+  order = w .order;
+  all = λ r t e. found r t e (order (r .first + r .len) (i + 1));
+}
   where
     found : (r : Run) → Is-run ps r → r .first + r .len ≤ i + 1 → (r .first + r .len < i + 1) ⊎ (i + 1 ≤ r .first + r .len) → (k : ℕ) × (k < length rs) × (getD rs k no-run ≡ r)
     found r t e (inl h) = w .all r t (omega arith)
@@ -167,10 +168,10 @@ walked-down ps i zero rs w d = record {
 
 pub walked-all : (ps : List Pin) (rs : List Run) → Walked ps (length ps + 1) 0 rs → Runs-of ps rs
 walked-all ps rs w = record {
-    each = w .each;
-    order = w .order;
-    all = λ r t. w .all r t (ends r t (order (length ps + 1) (r .first + r .len)));
-  }
+  each = w .each;
+  order = w .order;
+  all = λ r t. w .all r t (ends r t (order (length ps + 1) (r .first + r .len)));
+}
   where
     ends : (r : Run) → Is-run ps r → (length ps + 1 < r .first + r .len) ⊎ (r .first + r .len ≤ length ps + 1) → r .first + r .len ≤ length ps + 1
     ends r t (inl h) = absurd (none-past ps (r .first + r .len - 1) (omega arith) (t .stand (r .first + r .len - 1) (omega (arith, t .some)) (omega (arith, t .some))))
@@ -180,4 +181,4 @@ walked-all ps rs w = record {
 pub walked-end : (ps : List Pin) (i last n : ℕ) (rs : List Run) → i ≡ last → length ps ≡ last → Walked ps i n rs → Runs-of ps (closed rs last n)
 walked-end ps i last n rs e l w =
     walked-all ps (closed rs last n) (subst (λ k. Walked ps (k + 1) 0 (closed rs last n)) (sym l)
-      (walked-down ps last n rs (subst (λ k. Walked ps k n rs) e w) (none-past ps (last + 1) (omega arith))))
+    (walked-down ps last n rs (subst (λ k. Walked ps k n rs) e w) (none-past ps (last + 1) (omega arith))))

@@ -1,5 +1,8 @@
 ghost use Prim.Native.Nat.{_<_, _≤_, _^_};
 
+// The most pins that a board can have.
+pub const MOST_PINS: u8 = 32;
+
 // One pin of a board.
 #[derive(Clone, Copy, PartialEq, Eq, Debug)]
 pub enum Pin {

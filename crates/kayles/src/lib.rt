@@ -4,5 +4,6 @@ mod methods;
 mod runs;
 
 pub use board::Board;
+pub use board::MOST_PINS;
 pub use board::Pin;
 pub use board::Run;

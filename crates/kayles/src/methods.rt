@@ -5,6 +5,7 @@ ghost use Prim.Native.Nat.{_<_, _≤_};
 ghost use Rattle.std.specs.Options.{Cases};
 ghost use Rattle.kayles.specs.Rows.{bit, row, upright};
 use crate::board::Board;
+use crate::board::MOST_PINS;
 use crate::board::Pin;
 
 fn bit_of(pin: Pin) -> u32
@@ -21,17 +22,23 @@ impl Board {
     pub fn empty() -> Board
         ensures { λ r. ⌜ row r ≡ [] ⌝ }
     {
-        Board { count: 0, standing: 0 }
+        Board {
+            count: 0,
+            standing: 0,
+        }
     }
 
     // The board with one pin more on its right, unless it has 32.
     pub fn with(self, pin: Pin) -> Option<Board>
         ensures { λ r. ⌜ Cases r (length (row self) ≡ 32) (λ b. (length (row self) < 32) × (row b ≡ row self ++ pin ∷ [])) ⌝ }
     {
-        if self.count >= 32 {
+        if self.count >= MOST_PINS {
             return None;
         }
-        Some(Board { count: self.count + 1, standing: self.standing + (bit_of(pin) << self.count) })
+        Some(Board {
+            count: self.count + 1,
+            standing: self.standing + (bit_of(pin) << self.count),
+        })
     }
 
     // How many pins there are, standing or down: never more than 32.

@@ -16,7 +16,10 @@ fn close(runs: &mut Vec<Run>, last: u8, len: u8) -> Result<(), AllocError>
     ensures { λ r. ⌜ made r (λ _. vec-items (now (runs .exit)) ≡ closed (vec-items (now (runs .entry))) last len) ⌝ }
 {
     if len > 0 {
-        runs.push(Run { first: last - (len - 1), len })?;
+        runs.push(Run {
+            first: last - (len - 1),
+            len,
+        })?;
     }
     Ok(())
 }

@@ -1,4 +1,4 @@
-// Reads a book from standard input and prints its proof sheet.
+// Reads a book from standard input and prints the proofreading report on it.
 use book::proofread;
 use std::error::AnyError;
 use std::io::Read;
@@ -7,8 +7,8 @@ fn run(rt: &LibcRuntime) -> Result<(), AnyError> {
     let heap = rt.alloc();
     let mut book = Vec::new(heap);
     rt.stdin().read_to_end(&mut book)?;
-    let sheet = proofread(heap, book.as_slice())?;
-    rt.print(sheet)?;
+    let report = proofread(heap, book.as_slice())?;
+    rt.print(report)?;
     Ok(())
 }
 

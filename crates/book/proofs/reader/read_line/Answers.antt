@@ -23,7 +23,7 @@ pub returns-in-rest : need.returns-in-rest
 returns-in-rest c = reads _ _ (λ o. strip-prefix-is (c .args .line .now) opening None (c .in-rest .ensures tt .cases) (o .0) (o .1))
 
 pub returns-in-rest-strip-suffix : need.returns-in-rest-strip-suffix
-returns-in-rest-strip-suffix c = 
+returns-in-rest-strip-suffix c =
     let head = strip-prefix-is (c .args .line .now) opening (Some (c .in-Some .rest)) (c .in-Some .ensures tt .cases) in
     reads _ _ (inl (record {
       opened = (c .in-Some .rest .now, head);

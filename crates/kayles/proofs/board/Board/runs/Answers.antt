@@ -19,10 +19,11 @@ loop-passed-again c =
     let ps = row (c .args .self) in
     let i = c .loop-passed .passed in
     elim (c .if-stands .came) [
-      then-stands w ↦ subst₂ (Walked ps (i + 1)) (sym (w .len-is)) (sym (ap vec-items (w .runs-is)))
-        (walked-up ps i _ _ (c .loop-passed .inv) (c .stands .ensures .0 (w .if-stands .taken)))
-    | else-stands·in-Continue-close w ↦ subst₂ (Walked ps (i + 1)) (sym (w .len-is)) (sym (ap vec-items (w .runs-is) ∙ w .in-Continue-close .ensures tt))
-        (walked-down ps i _ _ (c .loop-passed .inv) (λ s. false≢true (sym (w .if-stands .left) ∙ c .stands .ensures .1 s))) ]
+      | then-stands w ↦ subst₂ (Walked ps (i + 1)) (sym (w .len-is)) (sym (ap vec-items (w .runs-is)))
+          (walked-up ps i _ _ (c .loop-passed .inv) (c .stands .ensures .0 (w .if-stands .taken)))
+      | else-stands·in-Continue-close w ↦ subst₂ (Walked ps (i + 1)) (sym (w .len-is)) (sym (ap vec-items (w .runs-is) ∙ w .in-Continue-close .ensures tt))
+          (walked-down ps i _ _ (c .loop-passed .inv) (λ s. false≢true (sym (w .if-stands .left) ∙ c .stands .ensures .1 s)))
+    ]
 
 pub close-requires-2 : need.close-requires-2
 close-requires-2 c κs = omega (arith, c .loop-passed .inv .within)
@@ -31,6 +32,6 @@ pub returns : need.returns
 returns c =
     let ps = row (c .args .self) in
     let is =
-      subst (Runs-of ps) (sym (c .in-Continue-close-2 .ensures tt))
-      (walked-end ps (c .loop-passed .passed) (c .args .self .count) _ _ (omega (arith, c .loop-passed .kept .passed-end, c .loop-passed-test .left)) (length-pins (c .args .self .count) (c .args .self .standing)) (c .loop-passed .inv)) in
+    subst (Runs-of ps) (sym (c .in-Continue-close-2 .ensures tt))
+    (walked-end ps (c .loop-passed .passed) (c .args .self .count) _ _ (omega (arith, c .loop-passed .kept .passed-end, c .loop-passed-test .left)) (length-pins (c .args .self .count) (c .args .self .standing)) (c .loop-passed .inv)) in
     (is, λ qs q. same-runs ps qs _ q is)

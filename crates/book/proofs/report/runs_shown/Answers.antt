@@ -10,8 +10,8 @@ use Rattle.std.proofs.shelf.Lists.{joined-more, take-more, take-all}
 use Rattle.std.proofs.shelf.Parts.{pushed}
 use Rattle.kayles.specs.declared.board.Run.{Run}
 use Rattle.kayles.specs.Runs.{no-run}
-use Rattle.book.specs.Sheets.{lengths-text, runs-text}
-use Rattle.book.proofs.sheet.runs_shown.Needs as need
+use Rattle.book.specs.Reports.{lengths-text, runs-text}
+use Rattle.book.proofs.report.runs_shown.Needs as need
 
 pub loop-run-again : need.loop-run-again
 loop-run-again c =

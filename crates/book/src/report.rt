@@ -7,7 +7,7 @@ ghost use Rattle.std.specs.Of.Vec.{vec-items};
 ghost use Rattle.std.specs.Vec.{made};
 ghost use Rattle.kayles.specs.Rows.{row};
 ghost use Rattle.book.specs.Faults.{number as numberOf};
-ghost use Rattle.book.specs.Sheets.{Answered, The-sheet, board-text, fault-text, runs-text};
+ghost use Rattle.book.specs.Reports.{Answered, The-report, board-text, fault-text, runs-text};
 use crate::fault::Fault;
 use crate::fault::Refusal;
 use crate::line::lines;
@@ -43,13 +43,21 @@ fn fault_shown(heap: Global, line_number: usize, refusal: Refusal) -> Result<Str
 }
 
 // What is printed for a line that shows a board.
-fn board_shown(heap: Global, line_number: usize, board: Board, runs: &[Run]) -> Result<String, AllocError>
+fn board_shown(
+    heap: Global,
+    line_number: usize,
+    board: Board,
+    runs: &[Run],
+) -> Result<String, AllocError>
     ensures { λ r. ⌜ made r (λ s. string-bytes s ≡ board-text «line_number» (row board) (now (runs .entry))) ⌝ }
 {
     let pins = board.len();
     let standing = board.standing();
     let lengths = runs_shown(heap, runs)?;
-    format!(heap, "kayles {line_number}\npins {pins} standing {standing}\nruns{lengths}\n")
+    format!(
+        heap,
+        "kayles {line_number}\npins {pins} standing {standing}\nruns{lengths}\n"
+    )
 }
 
 // What is printed for a line.
@@ -72,18 +80,18 @@ fn answer(heap: Global, line_number: usize, line: &[u8]) -> Result<String, Alloc
 // The most bytes that a book may have.
 const BOOK_LIMIT: usize = 8192;
 
-// The proof sheet of a book: what is printed for it, line after line.
+// The report on a book: what is printed for it, line after line.
 pub fn proofread(heap: Global, book: &[u8]) -> Result<String, AllocError>
-    ensures { λ r. ⌜ made r (λ s. The-sheet (now (book .entry)) (string-bytes s)) ⌝ }
+    ensures { λ r. ⌜ made r (λ s. The-report (now (book .entry)) (string-bytes s)) ⌝ }
 {
     if book.len() > BOOK_LIMIT {
         let number = Fault::BookTooLong.number();
         return format!(heap, "book fault {number}\n");
     }
     let found = lines(heap, book)?;
-    let mut sheet = String::new(heap);
+    let mut report = String::new(heap);
     for (i, line) in found.iter().enumerate() {
-        sheet.push_str(answer(heap, i + 1, line.text)?.as_str())?;
+        report.push_str(answer(heap, i + 1, line.text)?.as_str())?;
     }
-    Ok(sheet)
+    Ok(report)
 }

@@ -1,4 +1,4 @@
--- The proof sheet of a book. Assumes nothing.
+-- The report on a book, for the proofreader. Assumes nothing.
 use mathlib.Core.Path.{_≡_}
 use mathlib.Core.List.{List, [], _∷_, _++_}
 use Prim.Native.Nat.{ℕ, suc, _<_, _≤_}
@@ -49,10 +49,10 @@ abbrev pub limit : ℕ
 limit = 8192
 
 -- what is printed for a book: for all its lines, numbered from 1, or only that it is too long
-pub data Sheet (book : List ℕ) : List ℕ → Type 0 where
-  too-long : limit < length book → Sheet book (text (codes "book fault " ∷ decimal (number BookTooLong) ∷ codes "\n" ∷ []))
-  answered : {out : List ℕ} → length book ≤ limit → (ls : List Line) → Lines-of book ls → All-answered 1 ls out → Sheet book out
+pub data Report (book : List ℕ) : List ℕ → Type 0 where
+  too-long : limit < length book → Report book (text (codes "book fault " ∷ decimal (number BookTooLong) ∷ codes "\n" ∷ []))
+  answered : {out : List ℕ} → length book ≤ limit → (ls : List Line) → Lines-of book ls → All-answered 1 ls out → Report book out
 
 -- out is what is printed for the book, and nothing else is
-abbrev pub The-sheet : List ℕ → List ℕ → Type 0
-The-sheet book out = Sheet book out × ((other : List ℕ) → Sheet book other → other ≡ out)
+abbrev pub The-report : List ℕ → List ℕ → Type 0
+The-report book out = Report book out × ((other : List ℕ) → Report book other → other ≡ out)

@@ -11,8 +11,8 @@ use Rattle.book.specs.declared.reader.Item.the-variants.{PassedOver, Board}
 use Rattle.book.specs.BoardLines.{Board-line}
 use Rattle.book.specs.Faults.{number}
 use Rattle.book.specs.Readings.{Reads}
-use Rattle.book.specs.Sheets.{Answered, passed, board, fault}
-use Rattle.book.proofs.sheet.answer.Needs as need
+use Rattle.book.specs.Reports.{Answered, passed, board, fault}
+use Rattle.book.proofs.report.answer.Needs as need
 
 pub returns-in-Err : need.returns-in-Err
 returns-in-Err c =
