@@ -1,4 +1,4 @@
--- One line more in the report; and a book has one report. Assumes nothing.
+-- One line more in the report; and a book has one report.
 use mathlib.Core.Path.{_≡_, refl, sym, ap, ap₂, subst, _∙_}
 use mathlib.Core.List.{List, [], _∷_, _++_, map, append-assoc, append-nil}
 use Prim.Native.Nat.{ℕ, suc, _+_, _<_}

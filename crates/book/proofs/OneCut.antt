@@ -1,4 +1,4 @@
--- A book has one list of lines. Assumes nothing.
+-- A book has one list of lines.
 use mathlib.Core.Path.{_≡_, refl, sym, ap, ap₂, subst, _∙_}
 use mathlib.Core.List.{List, [], _∷_, _++_, map, append-assoc, append-nil}
 use mathlib.Core.Logic.{_⊎_, inl, inr}

@@ -1,4 +1,4 @@
--- A board's text, read from the left. Assumes nothing.
+-- A board's text, read from the left.
 use mathlib.Core.Path.{_≡_, refl, sym, ap, ap₂, subst, _∙_}
 use mathlib.Core.List.{List, [], _∷_, _++_, map}
 use Prim.Native.Nat.{ℕ, _+_, _<_, _≤_}

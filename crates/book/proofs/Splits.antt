@@ -1,4 +1,4 @@
--- A book, cut at its first line feed. Assumes nothing.
+-- A book, cut at its first line feed.
 use mathlib.Core.Path.{_≡_, refl, sym, ap, ap₂, subst, _∙_}
 use mathlib.Core.List.{List, [], _∷_, _++_, append-assoc, append-nil}
 use mathlib.Core.Logic.{_⊎_, inl, inr, ⊎-elim}

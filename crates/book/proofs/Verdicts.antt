@@ -1,4 +1,4 @@
--- A line has one verdict: passed over, accepted with one row, or refused with one fault. Assumes nothing.
+-- A line has one verdict: passed over, accepted with one row, or refused with one fault.
 use mathlib.Core.Path.{_≡_, refl, sym, ap, ap₂, subst, _∙_}
 use mathlib.Core.List.{List, [], _∷_, _++_, map}
 use mathlib.Core.Logic.{_⊎_, inl, inr}

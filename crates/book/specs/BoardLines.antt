@@ -1,4 +1,4 @@
--- Board lines: their form, and their first fault. Assumes nothing.
+-- Board lines: their form, and their first fault.
 use mathlib.Core.Path.{_≡_}
 use mathlib.Core.List.{List, map}
 use mathlib.Core.Logic.{_⊎_}
@@ -11,6 +11,7 @@ use Rattle.book.specs.declared.fault.Fault.the-variants.{Unclosed, NotAPin, To
 use Rattle.book.specs.Tags.{Opened, Tagged}
 use Rattle.book.specs.Tokens.{letter}
 
+-- a line that begins so is a board line
 abbrev pub opening : List ℕ
 opening = codes "[Kayles \""
 

@@ -1,4 +1,4 @@
--- The numbers of the faults. Assumes nothing.
+-- The numbers of the faults.
 use Prim.Native.Nat.{ℕ}
 use Rattle.book.specs.declared.fault.Fault.{Fault}
 use Rattle.book.specs.declared.fault.Fault.the-variants.{Unclosed, NotAPin, TooManyPins, BookTooLong}

@@ -1,4 +1,4 @@
--- The lines of a book. Assumes nothing.
+-- The lines of a book.
 use mathlib.Core.Path.{_≡_}
 use mathlib.Core.List.{List, [], _∷_, _++_, map}
 use mathlib.Core.Logic.{_⊎_}

@@ -1,4 +1,4 @@
--- What reading a line answers. Assumes nothing.
+-- What reading a line answers.
 use mathlib.Core.Path.{_≡_}
 use mathlib.Core.List.{List, [], _∷_, _++_}
 use Prim.Native.Nat.{ℕ, _<_}

@@ -1,4 +1,4 @@
--- The report on a book, for the proofreader. Assumes nothing.
+-- The report on a book, for the proofreader.
 use mathlib.Core.Path.{_≡_}
 use mathlib.Core.List.{List, [], _∷_, _++_}
 use Prim.Native.Nat.{ℕ, suc, _<_, _≤_}

@@ -1,4 +1,4 @@
--- A tag line: an opening, a text and a closing. Assumes nothing.
+-- A tag line: an opening, a text and a closing.
 use mathlib.Core.Path.{_≡_}
 use mathlib.Core.List.{List, _++_}
 use Prim.Native.Nat.{ℕ}

@@ -1,4 +1,4 @@
--- Which byte a token is. Assumes nothing.
+-- Which byte a token is.
 use mathlib.Core.Path.{_≡_}
 use Prim.Native.Nat.{ℕ}
 use Rattle.kayles.specs.declared.board.Pin.{Pin as KaylesPin}

@@ -9,6 +9,7 @@ pub use fault::Fault;
 pub use fault::Refusal;
 pub use line::Ending;
 pub use line::Line;
+pub use line::first_line;
 pub use line::lines;
 pub use reader::Item;
 pub use reader::read_line;

@@ -1,6 +1,6 @@
-ghost use mathlib.Core.List.{[], _++_};
+ghost use mathlib.Core.List.{[]};
 ghost use mathlib.Core.Path.{_≡_};
-ghost use lib.ListN.{length, getD, take, drop};
+ghost use lib.ListN.{length, getD};
 ghost use Prim.Native.Nat.{ℕ, _<_, _≤_};
 ghost use Rattle.std.specs.Of.Vec.{vec-items};
 ghost use Rattle.std.specs.Options.{Cases};
@@ -39,8 +39,8 @@ fn feed_at(book: &[u8]) -> usize
     book.len()
 }
 
-// The first line of a book that is not empty, and the rest of the book.
-fn first_line<'a>(book: &'a [u8]) -> Option<(Line<'a>, &'a [u8])>
+// The first line of a book and the rest of the book; an empty book has none.
+pub fn first_line<'a>(book: &'a [u8]) -> Option<(Line<'a>, &'a [u8])>
     ensures { λ r. ⌜ Cases r (now (book .entry) ≡ []) (λ p. First-line (now (book .entry)) (p .0) (now (p .1))) ⌝ }
 {
     if book.is_empty() {

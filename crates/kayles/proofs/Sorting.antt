@@ -1,4 +1,4 @@
--- There is one list of the runs of a row. Assumes nothing.
+-- There is one list of the runs of a row.
 use mathlib.Core.Path.{_≡_, refl, sym, ap, ap₂, _∙_}
 use mathlib.Core.List.{List, [], _∷_}
 use Prim.Native.Nat.{ℕ, zero, suc, _<_}

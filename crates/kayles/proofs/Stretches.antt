@@ -1,4 +1,4 @@
--- Which pins stand, and the runs that a walk along the row has met. Assumes nothing.
+-- Which pins stand, and the runs that a walk along the row has met.
 use mathlib.Core.Path.{_≡_, refl, sym, ap, _∙_, subst}
 use mathlib.Core.List.{List, [], _∷_, _++_}
 use mathlib.Core.Logic.{_⊎_, inl, inr}

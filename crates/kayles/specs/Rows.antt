@@ -1,4 +1,4 @@
--- A row of pins, and the row that a board stands for. Assumes nothing.
+-- A row of pins, and the row that a board stands for.
 use mathlib.Core.List.{List, [], _∷_}
 use mathlib.Core.Bool.{cond}
 use Prim.Native.Nat.{ℕ, zero, suc, _+_, _/_, _%_}

@@ -1,4 +1,4 @@
--- The runs of a row. Assumes nothing.
+-- The runs of a row.
 use mathlib.Core.Path.{_≡_}
 use mathlib.Core.List.{List, [], _∷_, _++_}
 use Prim.Native.Nat.{ℕ, zero, suc, _+_, _-_, _<_, _≤_}
