@@ -2,7 +2,7 @@ ghost use mathlib.Core.Path.{_≡_};
 ghost use Rattle.book.specs.Faults.{number as numberOf};
 
 // What can be wrong with a book or with one of its lines.
-#[derive(Clone, Copy, PartialEq, Eq, Debug)]
+#[derive(Clone, Copy)]
 pub enum Fault {
     // A board line with no closing `"]` after its opening.
     Unclosed,
@@ -29,7 +29,7 @@ impl Fault {
 }
 
 // Why a line is refused: the first fault met, and the column of its byte, counted from 1.
-#[derive(Clone, Copy, PartialEq, Eq, Debug)]
+#[derive(Clone, Copy)]
 pub struct Refusal {
     pub fault: Fault,
     pub column: usize,

@@ -10,7 +10,7 @@ use std::alloc::AllocError;
 use std::alloc::Global;
 
 // How a line ends: at a line feed or at the book's end, with or without a carriage return just before.
-#[derive(Clone, Copy, PartialEq, Eq, Debug)]
+#[derive(Clone, Copy)]
 pub enum Ending {
     Feed,
     ReturnFeed,
@@ -19,7 +19,7 @@ pub enum Ending {
 }
 
 // A line of a book, without its ending.
-#[derive(Clone, Copy, Debug)]
+#[derive(Clone, Copy)]
 pub struct Line<'a> {
     pub text: &'a [u8],
     pub ending: Ending,

@@ -2,10 +2,8 @@ ghost use mathlib.Core.Path.{_≡_};
 ghost use Rattle.std.specs.Of.String.{string-bytes};
 ghost use Rattle.std.specs.Vec.{made};
 ghost use Rattle.kayles.specs.Rows.{row};
-ghost use Rattle.book.specs.Faults.{number as numberOf};
 ghost use Rattle.book.specs.Reports.{Answered, The-report, board-text, fault-text, runs-text};
 use crate::fault::Fault;
-use crate::fault::Refusal;
 use crate::line::lines;
 use crate::reader::Item;
 use crate::reader::read_line;
@@ -29,12 +27,15 @@ fn runs_shown(heap: Global, runs: &[Run]) -> Result<String, AllocError>
     Ok(out)
 }
 
-// What is printed for a line that is refused.
-fn fault_shown(heap: Global, line_number: usize, refusal: Refusal) -> Result<String, AllocError>
-    ensures { λ r. ⌜ made r (λ s. string-bytes s ≡ fault-text «line_number» (numberOf (refusal .fault)) (refusal .column)) ⌝ }
+// What is printed for a line that is refused with that number and column.
+fn fault_shown(
+    heap: Global,
+    line_number: usize,
+    number: u8,
+    column: usize,
+) -> Result<String, AllocError>
+    ensures { λ r. ⌜ made r (λ s. string-bytes s ≡ fault-text «line_number» number column) ⌝ }
 {
-    let number = refusal.fault.number();
-    let column = refusal.column;
     format!(heap, "line {line_number} fault {number} column {column}\n")
 }
 
@@ -62,7 +63,10 @@ fn answer(heap: Global, line_number: usize, line: &[u8]) -> Result<String, Alloc
 {
     let item = match read_line(line) {
         Ok(item) => item,
-        Err(refusal) => return fault_shown(heap, line_number, refusal),
+        Err(refusal) => {
+            let number = refusal.fault.number();
+            return fault_shown(heap, line_number, number, refusal.column);
+        }
     };
     match item {
         Item::PassedOver => Ok(String::new(heap)),

@@ -4,7 +4,7 @@ ghost use Prim.Native.Nat.{_<_, _≤_, _^_};
 pub const MOST_PINS: u8 = 32;
 
 // One pin of a board.
-#[derive(Clone, Copy, PartialEq, Eq, Debug)]
+#[derive(Clone, Copy)]
 pub enum Pin {
     Standing,
     Down,
@@ -20,7 +20,7 @@ pub struct Board {
 }
 
 // A run: `len` pins from pin `first` on, counted from 1.
-#[derive(Clone, Copy, PartialEq, Eq, Debug)]
+#[derive(Clone, Copy)]
 pub struct Run {
     pub first: u8,
     pub len: u8,

@@ -9,7 +9,6 @@ use Rattle.kayles.specs.Rows.{row}
 use Rattle.kayles.specs.Runs.{Runs-of}
 use Rattle.book.specs.declared.reader.Item.the-variants.{PassedOver, Board}
 use Rattle.book.specs.BoardLines.{Board-line}
-use Rattle.book.specs.Faults.{number}
 use Rattle.book.specs.Readings.{Reads}
 use Rattle.book.specs.Reports.{Answered, passed, board, fault}
 use Rattle.book.proofs.report.answer.Needs as need
@@ -18,9 +17,9 @@ pub returns-in-Err : need.returns-in-Err
 returns-in-Err c =
     let e = c .in-Err .refusal in
     let line = c .args .line .now in
-    let told = c .in-Err .ensures tt .refused (number (e .fault)) (e .column) .only-if (e, refl, refl, refl) in
+    let told = c .in-Err .ensures tt .refused (c .number-number .result) (e .column) .only-if (e, refl, sym (c .number-number .ensures), refl) in
     made-weaker (c .fault-shown .result) _ (λ s. Answered (c .args .line-number) line (string-bytes s))
-    (λ s p. subst (Answered (c .args .line-number) line) (sym p) (fault (number (e .fault)) (e .column) told)) (c .fault-shown .ensures)
+    (λ s p. subst (Answered (c .args .line-number) line) (sym p) (fault (c .number-number .result) (e .column) told)) (c .fault-shown .ensures)
 
 pub returns-in-PassedOver : need.returns-in-PassedOver
 returns-in-PassedOver c =

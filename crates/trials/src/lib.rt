@@ -1,0 +1,128 @@
+// Tests of the crates below through their public calls, beside answers worked out by hand.
+#[cfg(test)]
+mod tests {
+    use book::Item;
+    use book::proofread;
+    use book::read_line;
+    use std::alloc::AllocError;
+    use std::alloc::Global;
+    use std::test::*;
+
+    fn reports(heap: Global, book: &[u8], expected: &str) -> Result<bool, AllocError> {
+        let report = proofread(heap, book)?;
+        Ok(report.as_str() == expected)
+    }
+
+    // The number and the column with which a line is refused, or two zeros.
+    fn refused(line: &[u8]) -> (u8, usize) {
+        match read_line(line) {
+            Ok(_) => (0, 0),
+            Err(refusal) => (refusal.fault.number(), refusal.column),
+        }
+    }
+
+    #[test]
+    fn faults_of_board_lines() -> Result<(), Fail> {
+        check_eq(refused(b"[Kayles \""), (2, 9))?;
+        check_eq(refused(b"[Kayles \"]"), (2, 10))?;
+        check_eq(refused(b"[Kayles \"x"), (2, 10))?;
+        check_eq(refused(b"[Kayles \"X\"] "), (2, 13))?;
+        check_eq(refused(b"[Kayles \"X\"]\"]"), (8, 11))?;
+        check_eq(refused(b"[Kayles \"Xx\"]"), (8, 11))?;
+        check_eq(refused(b"[Kayles \" X\"]"), (8, 10))?;
+        check_eq(refused(b"[Kayles \"X\0\"]"), (8, 11))?;
+        check_eq(refused(b"[Kayles \"X\xff\"]"), (8, 11))
+    }
+
+    #[test]
+    fn the_33rd_byte() -> Result<(), Fail> {
+        check_eq(
+            refused(b"[Kayles \"XXXXXXXXXXXXXXXXXXXXXXXXXXXXXXXX\"]"),
+            (0, 0),
+        )?;
+        check_eq(
+            refused(b"[Kayles \"XXXXXXXXXXXXXXXXXXXXXXXXXXXXXXXXX\"]"),
+            (9, 42),
+        )?;
+        check_eq(
+            refused(b"[Kayles \"XXXXXXXXXXXXXXXXXXXXXXXXXXXXXXXXy\"]"),
+            (9, 42),
+        )?;
+        check_eq(
+            refused(b"[Kayles \"XXXXXXXXXXXXXXXXXXXXXXXXXXXXXXXyX\"]"),
+            (8, 41),
+        )
+    }
+
+    #[test]
+    fn lines_of_a_book(rt: LibcRuntime) -> Result<(), Fail> {
+        let heap = rt.alloc();
+        check(reports(heap, b"", "")?).note("empty")?;
+        check(reports(heap, b"\r", "")?).note("a carriage return alone")?;
+        check(reports(heap, b"\n\r\n\0\xff\n", "")?).note("lines passed over")?;
+        check(reports(heap, b" [Kayles \"X\"]\n[kayles \"X\"]\n[Deal \"", "")?).note(
+            "other heads",
+        )?;
+        check(
+            reports(
+                heap,
+                b"[Kayles \"X\"]",
+                "kayles 1\npins 1 standing 1\nruns 1\n",
+            )?,
+        ).note("no line feed")?;
+        check(
+            reports(
+                heap,
+                b"\n[Kayles \"\"]\r\n",
+                "kayles 2\npins 0 standing 0\nruns none\n",
+            )?,
+        ).note("no pins")?;
+        check(
+            reports(
+                heap,
+                b"[Kayles \"X\"]\r",
+                "kayles 1\npins 1 standing 1\nruns 1\n",
+            )?,
+        ).note("a return at the end")?;
+        check(reports(heap, b"[Kayles \"X\"]\r\r\n", "line 1 fault 2 column 13\n")?).note(
+            "two returns",
+        )?;
+        check(
+            reports(
+                heap,
+                b"[Kayles \"X\"]\r[Kayles \"X\"]",
+                "line 1 fault 8 column 11\n",
+            )?,
+        ).note("a return inside")
+    }
+
+    #[test]
+    fn the_longest_book(rt: LibcRuntime) -> Result<(), Fail> {
+        let heap = rt.alloc();
+        let mut book = vec![in heap; b'\n'; 8180]?;
+        book.extend_from_slice(b"[Kayles \".\"]")?;
+        check(
+            reports(
+                heap,
+                book.as_slice(),
+                "kayles 8181\npins 1 standing 0\nruns none\n",
+            )?,
+        )?;
+        book.push(b'\n')?;
+        check(reports(heap, book.as_slice(), "book fault 12\n")?)
+    }
+
+    // The pins of an accepted board, by number; 0 and 6 are not on it.
+    #[test]
+    fn pins_of_a_board() -> Result<(), Fail> {
+        let Ok(item) = read_line(b"[Kayles \"X.XX.\"]") else {
+            return Err(Fail::new("refused"));
+        };
+        let Item::Board(board) = item else {
+            return Err(Fail::new("passed over"));
+        };
+        check_eq(board.len(), 5)?;
+        check(board.stands(1) && !board.stands(2) && board.stands(3) && board.stands(4))?;
+        check(!board.stands(0) && !board.stands(5) && !board.stands(6))
+    }
+}
