@@ -14,6 +14,3 @@ pub use line::lines;
 pub use reader::Item;
 pub use reader::read_line;
 pub use report::proofread;
-pub use token::Placed;
-pub use token::Token;
-pub use token::board_token;

@@ -4,7 +4,7 @@ use kayles::Pin;
 
 // A part of a line, borrowed from it.
 #[derive(Clone, Copy)]
-pub enum Token<'a> {
+pub(crate) enum Token<'a> {
     // A pin of a board.
     Pin(Pin, &'a u8),
     // A byte that is no token of its text.
@@ -13,13 +13,13 @@ pub enum Token<'a> {
 
 // A token with the column of its first byte in the line, counted from 1.
 #[derive(Clone, Copy)]
-pub struct Placed<'a> {
-    pub token: Token<'a>,
-    pub column: usize,
+pub(crate) struct Placed<'a> {
+    pub(crate) token: Token<'a>,
+    pub(crate) column: usize,
 }
 
 // The token that a byte of a board's text is: X stands, a dot is down.
-pub fn board_token<'a>(byte: &'a u8, column: usize) -> Placed<'a>
+pub(crate) fn board_token<'a>(byte: &'a u8, column: usize) -> Placed<'a>
     ensures { λ r. ⌜ Tells (r .token) (now (byte .entry)) ⌝ ∗ ⌜ r .column ≡ column ⌝ }
 {
     let token = match *byte {

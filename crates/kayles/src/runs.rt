@@ -1,7 +1,7 @@
-ghost use mathlib.Core.Bool.{true};
 ghost use mathlib.Core.Path.{_≡_};
 ghost use Prim.Native.Nat.{_≤_};
 ghost use Rattle.std.specs.Of.Vec.{vec-items};
+ghost use Rattle.std.specs.Orderings.{Decides};
 ghost use Rattle.std.specs.Vec.{made};
 ghost use Rattle.kayles.specs.Rows.{row};
 ghost use Rattle.kayles.specs.Runs.{Stands, The-runs, closed};
@@ -27,7 +27,7 @@ fn close(runs: &mut Vec<Run>, last: u8, len: u8) -> Result<(), AllocError>
 impl Board {
     // Whether there is a pin of that number, counted from 1, and it stands.
     pub fn stands(self, pin: u8) -> bool
-        ensures { λ r. ⌜ (r ≡ true → Stands (row self) pin) × (Stands (row self) pin → r ≡ true) ⌝ }
+        ensures { λ r. ⌜ Decides r (Stands (row self) pin) ⌝ }
     {
         if pin == 0 || pin > self.count {
             return false;
