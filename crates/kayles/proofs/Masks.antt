@@ -68,12 +68,15 @@ pin-at (suc n) m zero h = ap (λ k. pin-of (k % 2)) (let e : m ≡ m / 1 = omega
 pin-at (suc n) m (suc i) h =
     pin-at n (m / 2) i (omega arith) ∙ ap (λ k. pin-of (k % 2)) (shr-shr m 1 i ∙ ap (λ k. m / 2 ^ k) (let e : 1 + i ≡ suc i = omega arith in e))
 
+pub down-up : Down ≡ Standing → ⊥
+down-up e = let z : _≡_ {A = ℕ} 0 1 = cc in absurd (omega arith)
+
 pub up-pin : (b : Bool) → b ≡ true → cond b Standing Down ≡ Standing
 up-pin b e = ap (λ t. cond t Standing Down) e
 
 pub pin-up : (b : Bool) → cond b Standing Down ≡ Standing → b ≡ true
 pin-up true e = refl
-pin-up false e = let z : _≡_ {A = ℕ} 0 1 = cc in absurd (omega arith)
+pin-up false e = absurd (down-up e)
 
 -- no board has more than 32 pins
 pub row-few : (b : Board) → length (row b) ≤ 32

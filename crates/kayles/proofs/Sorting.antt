@@ -5,7 +5,7 @@ use Prim.Native.Nat.{ℕ, zero, suc, _<_}
 use native.Mathlib.Omega.{arith}
 use lib.ListN.{length, getD}
 use Rattle.kayles.specs.declared.board.Pin.{Pin}
-use Rattle.kayles.specs.declared.board.Run.{Run}
+use Rattle.kayles.specs.declared.runs.Run.{Run}
 use Rattle.kayles.specs.Runs.{Is-run, Runs-of, no-run}
 
 -- in the order of their first pins

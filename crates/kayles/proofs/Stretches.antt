@@ -1,24 +1,24 @@
--- Which pins stand, and the runs that a walk along the row has met.
+-- Which pins stand, and a walk along the row to its next run.
 use mathlib.Core.Path.{_≡_, refl, sym, ap, _∙_, subst}
-use mathlib.Core.List.{List, [], _∷_, _++_}
+use mathlib.Core.List.{List, [], _∷_}
 use mathlib.Core.Logic.{_⊎_, inl, inr}
-use mathlib.Core.Bool.{Bool, true, false, cond}
-use Prim.Native.Nat.{ℕ, zero, suc, _+_, _-_, _*_, _/_, _%_, _^_, _<_, _≤_}
+use mathlib.Core.Bool.{Bool, true, false, cond, false≢true}
+use Prim.Native.Nat.{ℕ, zero, suc, _+_, _-_, _/_, _^_, _<_, _≤_}
 use native.Mathlib.Omega.{arith}
 use lib.Bits.{bitAnd, and-mask}
 use lib.Dec.{eqb}
-use lib.ListN.{length, getD, length-append}
-use Rattle.std.proofs.shelf.Lists.{getD-past, getD-push, getD-append-left, length-push}
+use lib.ListN.{length, getD}
+use Rattle.std.specs.declared.option.Option.{Option}
+use Rattle.std.specs.declared.option.Option.the-variants.{None, Some}
+use Rattle.std.specs.Options.{Cases, isSome}
+use Rattle.std.proofs.shelf.Lists.{getD-past}
 use Rattle.std.proofs.str.Laws.{order}
 use Rattle.kayles.specs.declared.board.Pin.{Pin}
 use Rattle.kayles.specs.declared.board.Pin.the-variants.{Standing, Down}
-use Rattle.kayles.specs.declared.board.Run.{Run}
-use Rattle.kayles.specs.Rows.{pin-of, pins}
-use Rattle.kayles.specs.Runs.{Stands, Is-run, Runs-of, no-run, closed}
-use Rattle.kayles.proofs.Masks.{length-pins, pin-at, up-pin, pin-up}
-
-down-up : Down ≡ Standing → ⊥
-down-up e = let z : _≡_ {A = ℕ} 0 1 = cc in absurd (omega arith)
+use Rattle.kayles.specs.declared.runs.Run.{Run}
+use Rattle.kayles.specs.Rows.{Stands, pins}
+use Rattle.kayles.specs.Runs.{Is-run, First-run, No-run}
+use Rattle.kayles.proofs.Masks.{pin-at, up-pin, pin-up, down-up}
 
 pub no-pin-0 : (ps : List Pin) → Stands ps 0 → ⊥
 no-pin-0 ps e = down-up e
@@ -38,147 +38,134 @@ bit-stands n m k h l e = tested n m k h l ∙ up-pin _ e
 pub stands-bit : (n m k : ℕ) → 0 < k → k ≤ n → Stands (pins n m) k → eqb (bitAnd (m / 2 ^ (k - 1)) 1) 1 ≡ true
 stands-bit n m k h l s = pin-up _ (sym (tested n m k h l) ∙ s)
 
--- rs has the runs that end before pin i, and the n pins up to pin i stand, but not the one before them
-pub record Walked (ps : List Pin) (i n : ℕ) (rs : List Run) : Type 0 where
+-- a run lies within the row
+pub run-fits : (ps : List Pin) (r : Run) → Is-run ps r → r .first + r .len ≤ length ps + 1
+run-fits ps r t = go (order (length ps + 1) (r .first + r .len))
+  where
+    go : (length ps + 1 < r .first + r .len) ⊎ (r .first + r .len ≤ length ps + 1) → r .first + r .len ≤ length ps + 1
+    go (inl h) = absurd (none-past ps (r .first + r .len - 1) (omega arith) (t .stand (r .first + r .len - 1) (omega (arith, t .some)) (omega (arith, t .some))))
+    go (inr h) = h
+
+-- two runs that share a pin are the same
+pub same-run : (ps : List Pin) (r q : Run) → Is-run ps r → Is-run ps q → r .first < q .first + q .len → q .first < r .first + r .len → r ≡ q
+same-run ps r q t u a b = λ i. record { first = first i; len = len i }
+  where
+    first-at : (r .first < q .first) ⊎ (q .first ≤ r .first) → (q .first < r .first) ⊎ (r .first ≤ q .first) → r .first ≡ q .first
+    first-at (inl h) k = absurd (u .before (t .stand (q .first - 1) (omega arith) (omega arith)))
+    first-at (inr h) (inl k) = absurd (t .before (u .stand (r .first - 1) (omega arith) (omega arith)))
+    first-at (inr h) (inr k) = omega arith
+    first : r .first ≡ q .first
+    first = first-at (order (r .first) (q .first)) (order (q .first) (r .first))
+    len-at : (r .len < q .len) ⊎ (q .len ≤ r .len) → (q .len < r .len) ⊎ (r .len ≤ q .len) → r .len ≡ q .len
+    len-at (inl h) k = absurd (t .after (u .stand (r .first + r .len) (omega (arith, first)) (omega (arith, first))))
+    len-at (inr h) (inl k) = absurd (u .after (t .stand (q .first + q .len) (omega (arith, first)) (omega (arith, first))))
+    len-at (inr h) (inr k) = omega arith
+    len : r .len ≡ q .len
+    len = len-at (order (r .len) (q .len)) (order (q .len) (r .len))
+
+-- the n pins up to pin i stand, but not the one before them, and the runs that end before pin i begin before pin `from`
+pub record Walked (ps : List Pin) (from i n : ℕ) : Type 0 where
   pub within : n ≤ i
   pub stand : (k : ℕ) → i - n < k → k ≤ i → Stands ps k
   pub before : Stands ps (i - n) → ⊥
-  pub each : (k : ℕ) → k < length rs → Is-run ps (getD rs k no-run)
-  pub ended : (k : ℕ) → k < length rs → getD rs k no-run .first + getD rs k no-run .len ≤ i
-  pub order : (j k : ℕ) → j < k → k < length rs → getD rs j no-run .first < getD rs k no-run .first
-  pub all : (r : Run) → Is-run ps r → r .first + r .len ≤ i → (k : ℕ) × (k < length rs) × (getD rs k no-run ≡ r)
+  pub early : (r : Run) → Is-run ps r → r .first + r .len ≤ i → r .first < from
 
-pub walked-none : (ps : List Pin) → Walked ps 0 0 []
-walked-none ps = record {
-  within = omega arith;
-  stand = λ k a b. absurd (omega arith);
-  before = no-pin-0 ps;
-  each = λ k l. absurd (omega arith);
-  ended = λ k l. absurd (omega arith);
-  order = λ j k a l. absurd (omega arith);
-  all = λ r s e. absurd (omega (arith, s .some));
-}
+pub walked-none : (ps : List Pin) (from : ℕ) → Walked ps from 0 0
+walked-none ps from = record {
+    within = omega arith;
+    stand = λ k a b. absurd (omega arith);
+    before = no-pin-0 ps;
+    early = λ r t e. absurd (omega (arith, t .some));
+  }
 
 -- one more pin that stands
-pub walked-up : (ps : List Pin) (i n : ℕ) (rs : List Run) → Walked ps i n rs → Stands ps (i + 1) → Walked ps (i + 1) (n + 1) rs
-walked-up ps i n rs w s = record {
-  within = omega (arith, w .within);
-  stand = λ k a b. at k (omega (arith, w .within)) b (order k (i + 1));
-  before = λ t. w .before (subst (Stands ps) (let e : i + 1 - (n + 1) ≡ i - n = omega arith in e) t);
-  each = w .each;
-  ended = λ k l. omega (arith, w .ended k l);
-  order = w .order;
-  all = λ r t e. found r t e (order (r .first + r .len) (i + 1));
-}
+pub walked-up : (ps : List Pin) (from i n : ℕ) → Walked ps from i n → Stands ps (i + 1) → Walked ps from (i + 1) (n + 1)
+walked-up ps from i n w s = record {
+    within = omega (arith, w .within);
+    stand = λ k a b. at k (omega (arith, w .within)) b (order k (i + 1));
+    before = λ t. w .before (subst (Stands ps) (let e : i + 1 - (n + 1) ≡ i - n = omega arith in e) t);
+    early = λ r t e. begins r t e (order (r .first + r .len) (i + 1));
+  }
   where
     at : (k : ℕ) → i - n < k → k ≤ i + 1 → (k < i + 1) ⊎ (i + 1 ≤ k) → Stands ps k
     at k a b (inl h) = w .stand k a (omega arith)
     at k a b (inr h) = subst (Stands ps) (let e : i + 1 ≡ k = omega arith in e) s
+    begins : (r : Run) → Is-run ps r → r .first + r .len ≤ i + 1 → (r .first + r .len < i + 1) ⊎ (i + 1 ≤ r .first + r .len) → r .first < from
+    begins r t e (inl h) = w .early r t (omega arith)
+    begins r t e (inr h) = absurd (t .after (subst (Stands ps) (let e : i + 1 ≡ r .first + r .len = omega arith in e) s))
 
-    found : (r : Run) → Is-run ps r → r .first + r .len ≤ i + 1 → (r .first + r .len < i + 1) ⊎ (i + 1 ≤ r .first + r .len) → (k : ℕ) × (k < length rs) × (getD rs k no-run ≡ r)
-    found r t e (inl h) = w .all r t (omega arith)
-    found r t e (inr h) = absurd (t .after (subst (Stands ps) (let e : i + 1 ≡ r .first + r .len = omega arith in e) s))
+module _ (ps : List Pin) (from i n : ℕ) (w : Walked ps from i n) (d : Stands ps (i + 1) → ⊥) where
+  -- the pins up to pin i are a run, if there are any
+  last-is : (q : Run) → 0 < n → q .first + n ≡ i + 1 → q .len ≡ n → Is-run ps q
+  last-is q h e l = record {
+      some = omega arith;
+      stand = λ k a b. w .stand k (omega (arith, w .within)) (omega (arith, w .within));
+      before = λ t. w .before (subst (Stands ps) (let e : q .first - 1 ≡ i - n = omega (arith, w .within) in e) t);
+      after = λ t. d (subst (Stands ps) (let e : q .first + q .len ≡ i + 1 = omega arith in e) t);
+    }
 
--- what holds of each element, and of one more
-each-push : (P : Run → Type 0) (rs : List Run) (x : Run) → ((k : ℕ) → k < length rs → P (getD rs k no-run)) → P x → (k : ℕ) → k < length (rs ++ x ∷ []) → P (getD (rs ++ x ∷ []) k no-run)
-each-push P rs x h p k l = go (order k (length rs))
+  -- where they are the one that is sought
+  pub found-run : (q : Run) → (0 < n) × (from ≤ q .first) × (q .first + n ≡ i + 1) × (q .len ≡ n) → First-run ps from q
+  found-run q (h, late, e, l) = record { is-run = is; late = late; earliest = λ p t a. first p t a (order (p .first) (q .first)) }
+    where
+      is : Is-run ps q
+      is = last-is q h e l
+      first : (p : Run) → Is-run ps p → from ≤ p .first → (p .first < q .first) ⊎ (q .first ≤ p .first) → q .first ≤ p .first
+      first p t a (inr k) = k
+      first p t a (inl k) = ends (order (p .first + p .len) (i + 1))
+        where
+          ends : (p .first + p .len < i + 1) ⊎ (i + 1 ≤ p .first + p .len) → q .first ≤ p .first
+          ends (inl b) = absurd (omega (arith, w .early p t (omega arith)))
+          ends (inr b) = omega (arith, ap (λ x. x .first) (same-run ps p q t is (omega arith) (omega arith)))
+
+  -- and where they are not
+  pub walked-down : (n ≡ 0) ⊎ (i + 1 < from + n) → Walked ps from (i + 1) 0
+  walked-down c = record {
+      within = omega arith;
+      stand = λ k a b. absurd (omega arith);
+      before = λ t. d (subst (Stands ps) (let e : i + 1 - 0 ≡ i + 1 = omega arith in e) t);
+      early = λ r t e. begins r t e (order (r .first + r .len) (i + 1)) c;
+    }
+    where
+      begins : (r : Run) → Is-run ps r → r .first + r .len ≤ i + 1 → (r .first + r .len < i + 1) ⊎ (i + 1 ≤ r .first + r .len) → (n ≡ 0) ⊎ (i + 1 < from + n) → r .first < from
+      begins r t e (inl h) k = w .early r t (omega arith)
+      begins r t e (inr h) (inl k) = absurd (w .before (t .stand (i - n) (omega (arith, t .some)) (omega (arith, t .some))))
+      begins r t e (inr h) (inr k) = go (order 0 n)
+        where
+          go : (0 < n) ⊎ (n ≤ 0) → r .first < from
+          go (inr z) = absurd (w .before (t .stand (i - n) (omega (arith, t .some)) (omega (arith, t .some))))
+          go (inl z) =
+              let q : Run = record { first = i + 1 - n; len = n } in
+              let is : Is-run ps q = last-is q z (omega (arith, w .within)) refl in
+              omega (arith, w .within, ap (λ x. x .first) (same-run ps r q t is (omega (arith, w .within, t .some)) (omega (arith, w .within))))
+
+-- past the last pin no run is left
+pub walked-all : (ps : List Pin) (from : ℕ) → Walked ps from (length ps + 1) 0 → No-run ps from
+walked-all ps from w r t = w .early r t (run-fits ps r t)
+
+-- what `stretch` answers, and what follows from it
+abbrev pub Stretched : (last n from : ℕ) → Option Run → Type 0
+Stretched last n from o = Cases o ((n ≡ 0) ⊎ (last + 1 < from + n)) (λ q. (0 < n) × (from ≤ q .first) × (q .first + n ≡ last + 1) × (q .len ≡ n))
+
+abbrev pub Next-run : List Pin → ℕ → Option Run → Type 0
+Next-run ps from o = Cases o (No-run ps from) (First-run ps from)
+
+module _ (ps : List Pin) (from i n : ℕ) (w : Walked ps from i n) (d : Stands ps (i + 1) → ⊥) where
+  pub some-run : (o : Option Run) → isSome o ≡ true → Stretched i n from o → Next-run ps from o
+  some-run None e c = absurd (false≢true e)
+  some-run (Some q) e c = found-run ps from i n w d q c
+
+  pub none-run : (o : Option Run) → isSome o ≡ false → Stretched i n from o → Walked ps from (i + 1) 0
+  none-run None e c = walked-down ps from i n w d c
+  none-run (Some q) e c = absurd (false≢true (sym e))
+
+pub last-run : (ps : List Pin) (from i last n : ℕ) (o : Option Run) → i ≡ last → length ps ≡ last → Walked ps from i n → Stretched last n from o → Next-run ps from o
+last-run ps from i last n o e l w = go o
   where
-    go : (k < length rs) ⊎ (length rs ≤ k) → P (getD (rs ++ x ∷ []) k no-run)
-    go (inl a) = subst P (sym (getD-append-left rs (x ∷ []) no-run k a)) (h k a)
-    go (inr a) = subst P (sym (getD-push rs x no-run k (omega (arith, length-push rs x)))) p
-
-module _ (ps : List Pin) (i n : ℕ) (rs : List Run) (w : Walked ps i (suc n) rs) (d : Stands ps (i + 1) → ⊥) where
-  last-run : Run
-  last-run = record { first = i - n; len = suc n }
-
-  last-is : Is-run ps last-run
-  unfolding last-run
-  last-is = record {
-    some = omega arith;
-    stand = λ k a b. w .stand k (omega (arith, w .within)) (omega (arith, w .within));
-    before = λ t. w .before (subst (Stands ps) (let e : i - n - 1 ≡ i - suc n = omega arith in e) t);
-    after = λ t. d (subst (Stands ps) (let e : i - n + suc n ≡ i + 1 = omega (arith, w .within) in e) t);
-  }
-
-  -- a run that ends at pin i is the last one
-  same-end : (r : Run) → Is-run ps r → r .first + r .len ≡ i + 1 → last-run ≡ r
-  unfolding last-run
-  same-end r t e = go (order (r .first) (i - n)) (order (i - n) (r .first))
-    where
-      go : (r .first < i - n) ⊎ (i - n ≤ r .first) → (i - n < r .first) ⊎ (r .first ≤ i - n) → record { first = i - n; len = suc n } ≡ r
-      go (inl a) b = absurd (w .before (t .stand (i - suc n) (omega arith) (omega (arith, w .within))))
-      go (inr a) (inl b) = absurd (t .before (w .stand (r .first - 1) (omega arith) (omega (arith, t .some))))
-      go (inr a) (inr b) = λ j. record { first = (let f : i - n ≡ r .first = omega arith in f) j; len = (let l : suc n ≡ r .len = omega (arith, w .within) in l) j }
-
-  -- a run met earlier begins before the last one
-  earlier : (k : ℕ) → k < length rs → getD rs k no-run .first < i - n
-  earlier k l = go (order (getD rs k no-run .first) (i - n))
-    where
-      go : (getD rs k no-run .first < i - n) ⊎ (i - n ≤ getD rs k no-run .first) → getD rs k no-run .first < i - n
-      go (inl a) = a
-      go (inr a) = absurd (w .each k l .after (w .stand (getD rs k no-run .first + getD rs k no-run .len) (omega (arith, w .within)) (w .ended k l)))
-
-  order-push : (j k : ℕ) → j < k → k < length (rs ++ last-run ∷ []) → getD (rs ++ last-run ∷ []) j no-run .first < getD (rs ++ last-run ∷ []) k no-run .first
-  unfolding last-run
-  order-push j k a l = go (order k (length rs))
-    where
-      go : (k < length rs) ⊎ (length rs ≤ k) → getD (rs ++ last-run ∷ []) j no-run .first < getD (rs ++ last-run ∷ []) k no-run .first
-      go (inl b) = omega (arith, w .order j k a b, ap (λ r. r .first) (getD-append-left rs (last-run ∷ []) no-run j (omega arith)), ap (λ r. r .first) (getD-append-left rs (last-run ∷ []) no-run k b))
-      go (inr b) =
-          let h : j < length rs = omega (arith, length-push rs last-run) in
-          omega (arith, earlier j h, ap (λ r. r .first) (getD-append-left rs (last-run ∷ []) no-run j h), ap (λ r. r .first) (getD-push rs last-run no-run k (omega (arith, length-push rs last-run))))
-
-  found-push : (r : Run) → Is-run ps r → r .first + r .len ≤ i + 1 → (k : ℕ) × (k < length (rs ++ last-run ∷ [])) × (getD (rs ++ last-run ∷ []) k no-run ≡ r)
-  found-push r t e = go (order (r .first + r .len) (i + 1))
-    where
-      go : (r .first + r .len < i + 1) ⊎ (i + 1 ≤ r .first + r .len) → (k : ℕ) × (k < length (rs ++ last-run ∷ [])) × (getD (rs ++ last-run ∷ []) k no-run ≡ r)
-      go (inl a) =
-          let f = w .all r t (omega arith) in
-          (f .0, omega (arith, f .1, length-push rs last-run), getD-append-left rs (last-run ∷ []) no-run (f .0) (f .1) ∙ f .2)
-      go (inr a) = (length rs, omega (arith, length-push rs last-run), getD-push rs last-run no-run (length rs) refl ∙ same-end r t (omega arith))
-
-  closed-run : Walked ps (i + 1) 0 (closed rs i (suc n))
-  unfolding last-run
-  closed-run = record {
-    within = omega arith;
-    stand = λ k a b. absurd (omega arith);
-    before = λ t. d (subst (Stands ps) (let e : i + 1 - 0 ≡ i + 1 = omega arith in e) t);
-    each = each-push (Is-run ps) rs last-run (w .each) last-is;
-    ended = each-push (λ r. r .first + r .len ≤ i + 1) rs last-run (λ k l. omega (arith, w .ended k l)) (omega (arith, w .within));
-    order = order-push;
-    all = found-push;
-  }
-
--- a pin that does not stand, or the row's end, ends the run before it
-pub walked-down : (ps : List Pin) (i n : ℕ) (rs : List Run) → Walked ps i n rs → (Stands ps (i + 1) → ⊥) → Walked ps (i + 1) 0 (closed rs i n)
-walked-down ps i (suc n) rs w d = closed-run ps i n rs w d
-walked-down ps i zero rs w d = record {
-  within = omega arith;
-  stand = λ k a b. absurd (omega arith);
-  before = λ t. d (subst (Stands ps) (let e : i + 1 - 0 ≡ i + 1 = omega arith in e) t);
-  each = w .each;
-  ended = λ k l. omega (arith, w .ended k l);
-  order = w .order;
-  all = λ r t e. found r t e (order (r .first + r .len) (i + 1));
-}
-  where
-    found : (r : Run) → Is-run ps r → r .first + r .len ≤ i + 1 → (r .first + r .len < i + 1) ⊎ (i + 1 ≤ r .first + r .len) → (k : ℕ) × (k < length rs) × (getD rs k no-run ≡ r)
-    found r t e (inl h) = w .all r t (omega arith)
-    found r t e (inr h) = absurd (w .before (t .stand (i - 0) (omega (arith, t .some)) (omega (arith, t .some))))
-
-pub walked-all : (ps : List Pin) (rs : List Run) → Walked ps (length ps + 1) 0 rs → Runs-of ps rs
-walked-all ps rs w = record {
-  each = w .each;
-  order = w .order;
-  all = λ r t. w .all r t (ends r t (order (length ps + 1) (r .first + r .len)));
-}
-  where
-    ends : (r : Run) → Is-run ps r → (length ps + 1 < r .first + r .len) ⊎ (r .first + r .len ≤ length ps + 1) → r .first + r .len ≤ length ps + 1
-    ends r t (inl h) = absurd (none-past ps (r .first + r .len - 1) (omega arith) (t .stand (r .first + r .len - 1) (omega (arith, t .some)) (omega (arith, t .some))))
-    ends r t (inr h) = h
-
--- the row's end, after its last pin
-pub walked-end : (ps : List Pin) (i last n : ℕ) (rs : List Run) → i ≡ last → length ps ≡ last → Walked ps i n rs → Runs-of ps (closed rs last n)
-walked-end ps i last n rs e l w =
-    walked-all ps (closed rs last n) (subst (λ k. Walked ps (k + 1) 0 (closed rs last n)) (sym l)
-    (walked-down ps last n rs (subst (λ k. Walked ps k n rs) e w) (none-past ps (last + 1) (omega arith))))
+    v : Walked ps from last n
+    v = subst (λ k. Walked ps from k n) e w
+    d : Stands ps (last + 1) → ⊥
+    d = none-past ps (last + 1) (omega arith)
+    go : (o : Option Run) → Stretched last n from o → Next-run ps from o
+    go None c = walked-all ps from (subst (λ k. Walked ps from (k + 1) 0) (sym l) (walked-down ps from last n v d c))
+    go (Some q) c = found-run ps from last n v d q c

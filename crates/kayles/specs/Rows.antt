@@ -1,8 +1,10 @@
 -- A row of pins, and the row that a board stands for.
+use mathlib.Core.Path.{_≡_}
 use mathlib.Core.List.{List, [], _∷_}
 use mathlib.Core.Bool.{cond}
 use Prim.Native.Nat.{ℕ, zero, suc, _+_, _/_, _%_}
 use lib.Dec.{eqb}
+use lib.ListN.{getD}
 use Rattle.kayles.specs.declared.board.Board.{Board}
 use Rattle.kayles.specs.declared.board.Pin.{Pin}
 use Rattle.kayles.specs.declared.board.Pin.the-variants.{Standing, Down}
@@ -30,3 +32,7 @@ unfoldable pub upright : List Pin → ℕ
 upright [] = 0
 upright (Standing ∷ ps) = 1 + upright ps
 upright (Down ∷ ps) = upright ps
+
+-- pin k stands, counted from 1; there is no pin 0 and none past the row's end
+abbrev pub Stands : List Pin → ℕ → Type 0
+Stands ps k = getD (Down ∷ ps) k Down ≡ Standing

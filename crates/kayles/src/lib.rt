@@ -1,9 +1,9 @@
 // Kayles boards: up to 32 pins in a row, each standing or down.
 mod board;
-mod methods;
+mod row;
 mod runs;
 
 pub use board::Board;
 pub use board::MOST_PINS;
 pub use board::Pin;
-pub use board::Run;
+pub use runs::Run;

@@ -1,55 +1,49 @@
+// The runs of a board.
+ghost use lib.ListN.{length};
+ghost use mathlib.Core.Logic.{_⊎_};
 ghost use mathlib.Core.Path.{_≡_};
-ghost use Prim.Native.Nat.{_≤_};
-ghost use Rattle.std.specs.Of.Vec.{vec-items};
-ghost use Rattle.std.specs.Orderings.{Decides};
-ghost use Rattle.std.specs.Vec.{made};
+ghost use Prim.Native.Nat.{_+_, _<_, _≤_};
+ghost use Rattle.std.specs.Options.{Cases};
 ghost use Rattle.kayles.specs.Rows.{row};
-ghost use Rattle.kayles.specs.Runs.{Stands, The-runs, closed};
+ghost use Rattle.kayles.specs.Runs.{First-run, No-run};
 use crate::board::Board;
-use crate::board::Run;
-use std::alloc::AllocError;
-use std::alloc::Global;
 
-// Adds the run of `len` pins that ends at pin `last`, unless `len` is 0.
-fn close(runs: &mut Vec<Run>, last: u8, len: u8) -> Result<(), AllocError>
+// A run: `len` pins from pin `first` on, counted from 1.
+#[derive(Clone, Copy)]
+pub struct Run {
+    pub first: u8,
+    pub len: u8,
+}
+
+// The `len` pins up to pin `last`, if there are any and they begin at pin `from` or later.
+fn stretch(last: u8, len: u8, from: u8) -> Option<Run>
     requires { ⌜ len ≤ last ⌝ }
-    ensures { λ r. ⌜ made r (λ _. vec-items (now (runs .exit)) ≡ closed (vec-items (now (runs .entry))) last len) ⌝ }
+    ensures { λ r. ⌜ Cases r ((len ≡ 0) ⊎ (last + 1 < from + len)) (λ q. (0 < len) × (from ≤ q .first) × (q .first + len ≡ last + 1) × (q .len ≡ len)) ⌝ }
 {
-    if len > 0 {
-        runs.push(Run {
-            first: last - (len - 1),
-            len,
-        })?;
+    if len == 0 {
+        return None;
     }
-    Ok(())
+    let first = last - (len - 1);
+    if first < from { None } else { Some(Run { first, len }) }
 }
 
 impl Board {
-    // Whether there is a pin of that number, counted from 1, and it stands.
-    pub fn stands(self, pin: u8) -> bool
-        ensures { λ r. ⌜ Decides r (Stands (row self) pin) ⌝ }
+    // The first of the runs that begin at pin `from` or later.
+    pub fn next_run(self, from: u8) -> Option<Run>
+        ensures { λ r. ⌜ Cases r (No-run (row self) from) (First-run (row self) from) ⌝ }
     {
-        if pin == 0 || pin > self.count {
-            return false;
-        }
-        (self.standing >> (pin - 1)) & 1 == 1
-    }
-
-    // The runs, from the left.
-    pub fn runs(self, heap: Global) -> Result<Vec<Run>, AllocError>
-        ensures { λ r. ⌜ made r (λ v. The-runs (row self) (vec-items v)) ⌝ }
-    {
-        let mut runs = Vec::new(heap);
         let mut len = 0;
         for passed in 0..self.count {
             if self.stands(passed + 1) {
                 len += 1;
             } else {
-                close(&mut runs, passed, len)?;
+                let ended = stretch(passed, len, from);
+                if ended.is_some() {
+                    return ended;
+                }
                 len = 0;
             }
         }
-        close(&mut runs, self.count, len)?;
-        Ok(runs)
+        stretch(self.count, len, from)
     }
 }
