@@ -1,3 +1,4 @@
+pub mod Listing
 pub mod Masks
-pub mod Stretches
 pub mod Sorting
+pub mod Stretches
