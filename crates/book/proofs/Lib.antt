@@ -3,3 +3,4 @@ pub mod Spelling
 pub mod Verdicts
 pub mod Answering
 pub mod OneCut
+pub mod Showing

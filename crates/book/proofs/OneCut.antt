@@ -10,7 +10,7 @@ use Rattle.std.proofs.shelf.Lists.{same-from-push}
 use Rattle.book.specs.declared.line.Ending.{Ending}
 use Rattle.book.specs.declared.line.Ending.the-variants.{Feed, ReturnFeed, End, ReturnEnd}
 use Rattle.book.specs.declared.line.Line.{Line}
-use Rattle.book.specs.Lines.{LF, CR, mark, whole, plain, Fed, Returned, Is-line, In-order, Lines-of}
+use Rattle.book.specs.Lines.{LF, CR, mark, whole, plain, Fed, Returned, Is-line, Well-ended, Lines-of}
 
 -- a list without a line feed
 abbrev Unbroken : List ℕ → Type 0
@@ -99,30 +99,30 @@ same-line t u ReturnEnd ReturnFeed q a b v w = absurd (b tt)
 same-line t u ReturnEnd End q a b v w = absurd (w t (sym (append-nil u) ∙ sym q))
 same-line t u ReturnEnd ReturnEnd q a b v w = ap (λ x. (x, ReturnEnd)) (same-from-push t u CR CR q .0)
 
--- what In-order says of the first line, and of the others
-first-is : (l : Line) (ls : List Line) → In-order (l ∷ ls) → Is-line l
+-- what Well-ended says of the first line, and of the others
+first-is : (l : Line) (ls : List Line) → Well-ended (l ∷ ls) → Is-line l
 first-is l [] o = o .0
 first-is l (m ∷ ls) o = o .0
 
-rest-order : (l : Line) (ls : List Line) → In-order (l ∷ ls) → In-order ls
+rest-order : (l : Line) (ls : List Line) → Well-ended (l ∷ ls) → Well-ended ls
 rest-order l [] o = tt
 rest-order l (m ∷ ls) o = o .2
 
-last-only : (l : Line) (ls : List Line) → In-order (l ∷ ls) → (Fed (l .ending) → ⊥) → ls ≡ []
+last-only : (l : Line) (ls : List Line) → Well-ended (l ∷ ls) → (Fed (l .ending) → ⊥) → ls ≡ []
 last-only l [] o n = refl
 last-only l (m ∷ ls) o n = absurd (n (o .1))
 
-some-bytes : (l : Line) (ls : List Line) → In-order (l ∷ ls) → 0 < length (whole l)
+some-bytes : (l : Line) (ls : List Line) → Well-ended (l ∷ ls) → 0 < length (whole l)
 some-bytes l ls o = go (whole-is l) ls o
   where
-    go : (Fed (l .ending) × (whole l ≡ body l ++ LF ∷ [])) ⊎ ((Fed (l .ending) → ⊥) × (whole l ≡ body l)) → (ls : List Line) → In-order (l ∷ ls) → 0 < length (whole l)
+    go : (Fed (l .ending) × (whole l ≡ body l ++ LF ∷ [])) ⊎ ((Fed (l .ending) → ⊥) × (whole l ≡ body l)) → (ls : List Line) → Well-ended (l ∷ ls) → 0 < length (whole l)
     go (inl w) ls o = omega (arith, ap length (w .1), length-append (body l) (LF ∷ []))
     go (inr w) [] (i, inl f) = absurd (w .0 f)
     go (inr w) [] (i, inr h) = h
     go (inr w) (m ∷ ls) o = absurd (w .0 (o .1))
 
 -- two lines at the front of one book are the same, and what follows them is
-same-front : (l m : Line) (ls ms : List Line) → In-order (l ∷ ls) → In-order (m ∷ ms) → whole l ++ joined whole ls ≡ whole m ++ joined whole ms → (plain l ≡ plain m) × (joined whole ls ≡ joined whole ms)
+same-front : (l m : Line) (ls ms : List Line) → Well-ended (l ∷ ls) → Well-ended (m ∷ ms) → whole l ++ joined whole ls ≡ whole m ++ joined whole ms → (plain l ≡ plain m) × (joined whole ls ≡ joined whole ms)
 same-front l m ls ms o p e = go (whole-is l) (whole-is m)
   where
     i : Is-line l
@@ -137,7 +137,7 @@ same-front l m ls ms o p e = go (whole-is l) (whole-is m)
     fed : (x : Line) (xs : List Line) → whole x ≡ body x ++ LF ∷ [] → whole x ++ joined whole xs ≡ body x ++ LF ∷ joined whole xs
     fed x xs w = ap (λ y. y ++ joined whole xs) w ∙ append-assoc (body x) (LF ∷ []) (joined whole xs)
 
-    last : (x : Line) (xs : List Line) → In-order (x ∷ xs) → (Fed (x .ending) → ⊥) → whole x ≡ body x → whole x ++ joined whole xs ≡ body x
+    last : (x : Line) (xs : List Line) → Well-ended (x ∷ xs) → (Fed (x .ending) → ⊥) → whole x ≡ body x → whole x ++ joined whole xs ≡ body x
     last x xs o n w = ap (λ ys. whole x ++ joined whole ys) (last-only x xs o n) ∙ append-nil (whole x) ∙ w
 
     go : Ends l → Ends m → (plain l ≡ plain m) × (joined whole ls ≡ joined whole ms)
@@ -152,7 +152,7 @@ same-front l m ls ms o p e = go (whole-is l) (whole-is m)
           ap (joined whole) (last-only l ls o (v .0)) ∙ sym (ap (joined whole) (last-only m ms p (w .0))),
         )
 
-same-order : (ls ms : List Line) → In-order ls → In-order ms → joined whole ls ≡ joined whole ms → map plain ls ≡ map plain ms
+same-order : (ls ms : List Line) → Well-ended ls → Well-ended ms → joined whole ls ≡ joined whole ms → map plain ls ≡ map plain ms
 same-order [] [] o p e = refl
 same-order [] (m ∷ ms) o p e = absurd (omega (arith, some-bytes m ms p, ap length e, length-append (whole m) (joined whole ms)))
 same-order (l ∷ ls) [] o p e = absurd (omega (arith, some-bytes l ls o, ap length e, length-append (whole l) (joined whole ls)))
@@ -161,4 +161,4 @@ same-order (l ∷ ls) (m ∷ ms) o p e =
     ap₂ _∷_ (s .0) (same-order ls ms (rest-order l ls o) (rest-order m ms p) (s .1))
 
 pub same-lines : (book : List ℕ) (ls ms : List Line) → Lines-of book ls → Lines-of book ms → map plain ls ≡ map plain ms
-same-lines book ls ms a b = same-order ls ms (a .in-order) (b .in-order) (a .together ∙ sym (b .together))
+same-lines book ls ms a b = same-order ls ms (a .well-ended) (b .well-ended) (a .together ∙ sym (b .together))

@@ -10,7 +10,7 @@ use Rattle.kayles.specs.declared.board.Pin.the-variants.{Standing, Down}
 use Rattle.book.specs.declared.fault.Fault.{Fault}
 use Rattle.book.specs.declared.fault.Fault.the-variants.{Unclosed, NotAPin, TooManyPins, BookTooLong}
 use Rattle.book.specs.BoardLines.{Wrong, First-wrong}
-use Rattle.book.specs.Tokens.{letter}
+use Rattle.book.specs.Letters.{letter}
 
 pub letter-inj : (p q : Pin) → letter p ≡ letter q → p ≡ q
 letter-inj Standing Standing e = refl

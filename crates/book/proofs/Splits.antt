@@ -10,7 +10,7 @@ use Rattle.std.specs.Joined.{joined}
 use Rattle.std.proofs.shelf.Lists.{getD-append-left, joined-more, nil-from-length}
 use Rattle.book.specs.declared.line.Ending.the-variants.{Feed, ReturnFeed, End, ReturnEnd}
 use Rattle.book.specs.declared.line.Line.{Line}
-use Rattle.book.specs.Lines.{LF, CR, Is-line, Fed, In-order, Lines-of, First-line, whole}
+use Rattle.book.specs.Lines.{LF, CR, Is-line, Fed, Well-ended, Lines-of, First-line, whole}
 
 -- the body up to the first line feed or the book's end, and the tail from there on
 pub record Cut (book body tail : List ℕ) : Type 0 where
@@ -67,10 +67,10 @@ abbrev pub All-fed : List Line → Type 0
 All-fed [] = Unit {0}
 All-fed (l ∷ ls) = Is-line l × Fed (l .ending) × All-fed ls
 
-in-order-more : (ls : List Line) (l : Line) → All-fed ls → Is-line l → 0 < length (whole l) → In-order (ls ++ l ∷ [])
-in-order-more [] l a i s = (i, inr s)
-in-order-more (x ∷ []) l a i s = (a .0, a .1, (i, inr s))
-in-order-more (x ∷ y ∷ ls) l a i s = (a .0, a .1, in-order-more (y ∷ ls) l (a .2) i s)
+well-ended-more : (ls : List Line) (l : Line) → All-fed ls → Is-line l → 0 < length (whole l) → Well-ended (ls ++ l ∷ [])
+well-ended-more [] l a i s = (i, inr s)
+well-ended-more (x ∷ []) l a i s = (a .0, a .1, (i, inr s))
+well-ended-more (x ∷ y ∷ ls) l a i s = (a .0, a .1, well-ended-more (y ∷ ls) l (a .2) i s)
 
 all-fed-more : (ls : List Line) (l : Line) → All-fed ls → Is-line l → Fed (l .ending) → All-fed (ls ++ l ∷ [])
 all-fed-more [] l a i f = (i, f, tt)
@@ -79,11 +79,11 @@ all-fed-more (x ∷ ls) l a i f = (a .0, a .1, all-fed-more ls l (a .2) i f)
 -- ls are the lines of the front of the book, and rest is what is left
 pub record Sofar (book : List ℕ) (ls : List Line) (rest : List ℕ) : Type 0 where
   pub together : joined whole ls ++ rest ≡ book
-  pub in-order : In-order ls
+  pub well-ended : Well-ended ls
   pub fed : 0 < length rest → All-fed ls
 
 pub sofar-none : (book : List ℕ) → Sofar book [] book
-sofar-none book = record { together = refl; in-order = tt; fed = λ h. tt }
+sofar-none book = record { together = refl; well-ended = tt; fed = λ h. tt }
 
 pub shorter : (rest : List ℕ) (l : Line) (after : List ℕ) → First-line rest l after → length after < length rest
 shorter rest l after f = omega (arith, ap length (f .together), length-append (whole l) after, f .some)
@@ -93,9 +93,9 @@ sofar-more book ls rest l after s f =
     let a = s .fed (omega (arith, shorter rest l after f)) in
     record {
       together = ap (λ x. x ++ after) (sym (joined-more whole [] ls l)) ∙ append-assoc (joined whole ls) (whole l) after ∙ ap (λ x. joined whole ls ++ x) (f .together) ∙ s .together;
-      in-order = in-order-more ls l a (f .is-line) (f .some);
+      well-ended = well-ended-more ls l a (f .is-line) (f .some);
       fed = λ h. all-fed-more ls l a (f .is-line) (⊎-elim (λ x. x) (λ e. absurd (omega (arith, ap length e))) (f .ends));
     }
 
 pub sofar-all : (book : List ℕ) (ls : List Line) (rest : List ℕ) → rest ≡ [] → Sofar book ls rest → Lines-of book ls
-sofar-all book ls rest e s = record { together = sym (append-nil (joined whole ls)) ∙ ap (λ x. joined whole ls ++ x) (sym e) ∙ s .together; in-order = s .in-order }
+sofar-all book ls rest e s = record { together = sym (append-nil (joined whole ls)) ∙ ap (λ x. joined whole ls ++ x) (sym e) ∙ s .together; well-ended = s .well-ended }

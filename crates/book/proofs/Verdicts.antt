@@ -14,26 +14,26 @@ use Rattle.kayles.specs.Rows.{row}
 use Rattle.book.specs.declared.fault.Fault.{Fault}
 use Rattle.book.specs.declared.fault.Fault.the-variants.{Unclosed, NotAPin, TooManyPins, BookTooLong}
 use Rattle.book.specs.declared.reader.Item.the-variants.{PassedOver, Board}
-use Rattle.book.specs.BoardLines.{Wrong, First-wrong, No-closing, Misprint, First-fault, Board-line, opening}
+use Rattle.book.specs.BoardLines.{Wrong, First-wrong, No-closing, Misprint, First-fault, Board-line, kayles-opening}
 use Rattle.book.specs.Faults.{number}
-use Rattle.book.specs.Readings.{Reading, Passes, Accepts, Refuses, Faulted, Reads, Exactly}
+use Rattle.book.specs.Readings.{Reading, Passes, Accepts, Refuses, Faulted, Reads}
 use Rattle.book.specs.Tags.{Opened, Tagged, closing}
-use Rattle.book.specs.Tokens.{letter}
+use Rattle.book.specs.Letters.{letter}
 use Rattle.book.proofs.Spelling.{same-row, shown-at}
 
 -- what the reader finds out about a line
 abbrev pub Found : List ℕ → Reading → Type 0
-Found line (Ok PassedOver) = Opened opening line → ⊥
+Found line (Ok PassedOver) = Opened kayles-opening line → ⊥
 Found line (Ok (Board b)) = Board-line line (row b)
 Found line (Err e) = First-fault line (e .fault) (e .column)
 
-same-text : (line t u : List ℕ) → Tagged opening line t → Tagged opening line u → t ≡ u
-same-text line t u a b = append-cancel-right t u closing (append-cancel-left opening (t ++ closing) (u ++ closing) (sym a ∙ b))
+same-text : (line t u : List ℕ) → Tagged kayles-opening line t → Tagged kayles-opening line u → t ≡ u
+same-text line t u a b = append-cancel-right t u closing (append-cancel-left kayles-opening (t ++ closing) (u ++ closing) (sym a ∙ b))
 
-pub board-opened : (line : List ℕ) (ps : List Pin) → Board-line line ps → Opened opening line
+pub board-opened : (line : List ℕ) (ps : List Pin) → Board-line line ps → Opened kayles-opening line
 board-opened line ps (text, tagged, shows, few) = (text ++ closing, tagged)
 
-pub fault-opened : (line : List ℕ) (f : Fault) (c : ℕ) → First-fault line f c → Opened opening line
+pub fault-opened : (line : List ℕ) (f : Fault) (c : ℕ) → First-fault line f c → Opened kayles-opening line
 fault-opened line f c (inl n) = n .opened
 fault-opened line f c (inr m) = (m .text ++ closing, m .tagged)
 
@@ -80,7 +80,7 @@ same-fault line f g c d (inl a) (inl b) = (a .fault ∙ sym (b .fault), a .place
 same-fault line f g c d (inl a) (inr b) = absurd (a .unclosed (b .text) (b .tagged))
 same-fault line f g c d (inr a) (inl b) = absurd (b .unclosed (a .text) (a .tagged))
 same-fault line f g c d (inr a) (inr b) =
-    same-first (b .text) (length opening) f g c d (subst (λ t. First-wrong t (length opening) f c) (same-text line (a .text) (b .text) (a .tagged) (b .tagged)) (a .first)) (b .first)
+    same-first (b .text) (length kayles-opening) f g c d (subst (λ t. First-wrong t (length kayles-opening) f c) (same-text line (a .text) (b .text) (a .tagged) (b .tagged)) (a .first)) (b .first)
 
 pub same-board : (line : List ℕ) (ps qs : List Pin) → Board-line line ps → Board-line line qs → ps ≡ qs
 same-board line ps qs (t, a, s, few) (u, b, v, small) = same-row ps qs (sym s ∙ same-text line t u a b ∙ v)
@@ -91,29 +91,26 @@ apart z = absurd (omega arith)
 
 pub reads : (line : List ℕ) (r : Reading) → Found line r → Reads line r
 reads line (Ok PassedOver) n = record {
-  passed = record { only-if = λ e. n; if = λ m. refl };
-  accepted = λ ps. record { only-if = λ (b, e, q). absurd (apart (cc)); if = λ l. absurd (n (board-opened line ps l)) };
-  refused = λ k c. record { only-if = λ (x, e, q, p). absurd (apart (cc)); if = λ (f, q, l). absurd (n (fault-opened line f c l)) };
+  passed = (λ e. n, λ m. refl);
+  accepted = λ ps. (λ (b, e, q). absurd (apart (cc)), λ l. absurd (n (board-opened line ps l)));
+  refused = λ k c. (λ (x, e, q, p). absurd (apart (cc)), λ (f, q, l). absurd (n (fault-opened line f c l)));
   tied = λ o. absurd (n o);
 }
 reads line (Ok (Board b)) l = record {
-  passed = record { only-if = λ e. absurd (apart (cc)); if = λ n. absurd (n (board-opened line (row b) l)) };
-  accepted = λ ps. record {
-    only-if = λ (d, e, q). subst (Board-line line) (let same : b ≡ d = cc in ap row same ∙ q) l;
-    if = λ m. (b, refl, same-board line (row b) ps l m);
-  };
-  refused = λ k c. record { only-if = λ (x, e, q, p). absurd (apart (cc)); if = λ (f, q, m). absurd (no-fault line (row b) f c l m) };
-  tied = λ o. record { only-if = λ h k c (f, q, m). no-fault line (row b) f c l m; if = λ h. (row b, l) };
+  passed = (λ e. absurd (apart (cc)), λ n. absurd (n (board-opened line (row b) l)));
+  accepted = λ ps. (λ (d, e, q). subst (Board-line line) (let same : b ≡ d = cc in ap row same ∙ q) l, λ m. (b, refl, same-board line (row b) ps l m));
+  refused = λ k c. (λ (x, e, q, p). absurd (apart (cc)), λ (f, q, m). absurd (no-fault line (row b) f c l m));
+  tied = λ o. (λ h k c (f, q, m). no-fault line (row b) f c l m, λ h. (row b, l));
 }
 reads line (Err e) l = record {
-  passed = record { only-if = λ q. absurd (apart (cc)); if = λ n. absurd (n (fault-opened line (e .fault) (e .column) l)) };
-  accepted = λ ps. record { only-if = λ (b, q, p). absurd (apart (cc)); if = λ m. absurd (no-fault line ps (e .fault) (e .column) m l) };
-  refused = λ k c. record {
-    only-if = λ (x, q, n, p). let same : e ≡ x = cc in (e .fault, ap (λ y. number (y .fault)) same ∙ n, subst (First-fault line (e .fault)) (ap (λ y. y .column) same ∙ p) l);
-    if = λ (f, n, m). let s = same-fault line (e .fault) f (e .column) c l m in (e, refl, ap number (s .0) ∙ n, s .1);
-  };
-  tied = λ o. record {
-    only-if = λ (ps, m). absurd (no-fault line ps (e .fault) (e .column) m l);
-    if = λ h. absurd (h (number (e .fault)) (e .column) (e .fault, refl, l));
-  };
+  passed = (λ q. absurd (apart (cc)), λ n. absurd (n (fault-opened line (e .fault) (e .column) l)));
+  accepted = λ ps. (λ (b, q, p). absurd (apart (cc)), λ m. absurd (no-fault line ps (e .fault) (e .column) m l));
+  refused = λ k c. (
+    λ (x, q, n, p). let same : e ≡ x = cc in (e .fault, ap (λ y. number (y .fault)) same ∙ n, subst (First-fault line (e .fault)) (ap (λ y. y .column) same ∙ p) l),
+    λ (f, n, m). let s = same-fault line (e .fault) f (e .column) c l m in (e, refl, ap number (s .0) ∙ n, s .1),
+  );
+  tied = λ o. (
+    λ (ps, m). absurd (no-fault line ps (e .fault) (e .column) m l),
+    λ h. absurd (h (number (e .fault)) (e .column) (e .fault, refl, l)),
+  );
 }

@@ -1,7 +1,8 @@
 pub mod BoardLines
 pub mod Faults
+pub mod Letters
 pub mod Lines
 pub mod Readings
 pub mod Reports
+pub mod Steps
 pub mod Tags
-pub mod Tokens

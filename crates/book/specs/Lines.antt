@@ -41,21 +41,21 @@ Returned ReturnFeed = Unit {0}
 Returned End = ⊥
 Returned ReturnEnd = Unit {0}
 
--- a line has no line feed in it, and a carriage return at its end only behind one that was dropped
+-- a line has no line feed in it; and if it still ends in a carriage return, then another one was dropped after that
 pub record Is-line (l : Line) : Type 0 where
   pub unbroken : (k : ℕ) → k < length (l .text .now) → getD (l .text .now) k 0 ≡ LF → ⊥
   pub stripped : (front : List ℕ) → l .text .now ≡ front ++ CR ∷ [] → Returned (l .ending)
 
--- every line but the last ends in a line feed; the last may end with the book, and then is not nothing
-abbrev pub In-order : List Line → Type 0
-In-order [] = Unit {0}
-In-order (l ∷ []) = Is-line l × (Fed (l .ending) ⊎ (0 < length (whole l)))
-In-order (l ∷ m ∷ ls) = Is-line l × Fed (l .ending) × In-order (m ∷ ls)
+-- lines one after the other: each but the last ends in a line feed; the last may end with the book, and then is not nothing
+abbrev pub Well-ended : List Line → Type 0
+Well-ended [] = Unit {0}
+Well-ended (l ∷ []) = Is-line l × (Fed (l .ending) ⊎ (0 < length (whole l)))
+Well-ended (l ∷ m ∷ ls) = Is-line l × Fed (l .ending) × Well-ended (m ∷ ls)
 
 -- these are the lines of the book: put together again with their endings, they are the book
 pub record Lines-of (book : List ℕ) (ls : List Line) : Type 0 where
   pub together : joined whole ls ≡ book
-  pub in-order : In-order ls
+  pub well-ended : Well-ended ls
 
 -- a line's text and ending, wherever it lies
 abbrev pub plain : Line → List ℕ × Ending
@@ -71,3 +71,7 @@ pub record First-line (book : List ℕ) (l : Line) (rest : List ℕ) : Type 0 wh
   pub is-line : Is-line l
   pub some : 0 < length (whole l)
   pub ends : Fed (l .ending) ⊎ (rest ≡ [])
+
+-- l is the first line of the book and rest what comes after it, and there is no other way to cut it off
+abbrev pub The-first-line : List ℕ → Line → List ℕ → Type 0
+The-first-line book l rest = First-line book l rest × ((m : Line) (others : List ℕ) → First-line book m others → (plain m ≡ plain l) × (others ≡ rest))

@@ -5,14 +5,14 @@ use Prim.Native.Nat.{ℕ, suc, _<_, _≤_}
 use lib.Chars.{codes}
 use lib.ListN.{length}
 use Rattle.std.specs.Joined.{joined}
-use Rattle.std.specs.Written.{decimal, joined as text}
+use Rattle.std.specs.Written.{decimal, joined as concat}
 use Rattle.kayles.specs.declared.board.Pin.{Pin}
-use Rattle.kayles.specs.declared.board.Run.{Run}
+use Rattle.kayles.specs.declared.runs.Run.{Run}
 use Rattle.kayles.specs.Rows.{upright}
 use Rattle.kayles.specs.Runs.{Runs-of}
 use Rattle.book.specs.declared.fault.Fault.the-variants.{BookTooLong}
 use Rattle.book.specs.declared.line.Line.{Line}
-use Rattle.book.specs.BoardLines.{Board-line, opening}
+use Rattle.book.specs.BoardLines.{Board-line, kayles-opening}
 use Rattle.book.specs.Faults.{number}
 use Rattle.book.specs.Lines.{Lines-of}
 use Rattle.book.specs.Readings.{Faulted}
@@ -28,14 +28,14 @@ runs-text (r ∷ rs) = lengths-text (r ∷ rs)
 
 -- what is printed for a line with a fault, and for a board; n is the number of the line and k that of the fault
 abbrev pub fault-text : ℕ → ℕ → ℕ → List ℕ
-fault-text n k column = text (codes "line " ∷ decimal n ∷ codes " fault " ∷ decimal k ∷ codes " column " ∷ decimal column ∷ codes "\n" ∷ [])
+fault-text n k column = concat (codes "line " ∷ decimal n ∷ codes " fault " ∷ decimal k ∷ codes " column " ∷ decimal column ∷ codes "\n" ∷ [])
 
 abbrev pub board-text : ℕ → List Pin → List Run → List ℕ
-board-text n ps rs = text (codes "kayles " ∷ decimal n ∷ codes "\npins " ∷ decimal (length ps) ∷ codes " standing " ∷ decimal (upright ps) ∷ codes "\nruns" ∷ runs-text rs ∷ codes "\n" ∷ [])
+board-text n ps rs = concat (codes "kayles " ∷ decimal n ∷ codes "\npins " ∷ decimal (length ps) ∷ codes " standing " ∷ decimal (upright ps) ∷ codes "\nruns" ∷ runs-text rs ∷ codes "\n" ∷ [])
 
 -- what is printed for the line with the number n: nothing, a board, or a fault
 pub data Answered (n : ℕ) (line : List ℕ) : List ℕ → Type 0 where
-  passed : (Opened opening line → ⊥) → Answered n line []
+  passed : (Opened kayles-opening line → ⊥) → Answered n line []
   board : (ps : List Pin) (rs : List Run) → Board-line line ps → Runs-of ps rs → Answered n line (board-text n ps rs)
   fault : (k column : ℕ) → Faulted line k column → Answered n line (fault-text n k column)
 
@@ -50,7 +50,7 @@ limit = 8192
 
 -- what is printed for a book: for all its lines, numbered from 1, or only that it is too long
 pub data Report (book : List ℕ) : List ℕ → Type 0 where
-  too-long : limit < length book → Report book (text (codes "book fault " ∷ decimal (number BookTooLong) ∷ codes "\n" ∷ []))
+  too-long : limit < length book → Report book (concat (codes "book fault " ∷ decimal (number BookTooLong) ∷ codes "\n" ∷ []))
   answered : {out : List ℕ} → length book ≤ limit → (ls : List Line) → Lines-of book ls → All-answered 1 ls out → Report book out
 
 -- out is what is printed for the book, and nothing else is

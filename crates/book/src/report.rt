@@ -2,27 +2,29 @@ ghost use mathlib.Core.Path.{_≡_};
 ghost use Rattle.std.specs.Of.String.{string-bytes};
 ghost use Rattle.std.specs.Vec.{made};
 ghost use Rattle.kayles.specs.Rows.{row};
-ghost use Rattle.book.specs.Reports.{Answered, The-report, board-text, fault-text, runs-text};
+ghost use Rattle.book.specs.Reports.{Answered, The-report, fault-text};
+ghost use Rattle.book.specs.Steps.{Shows-board, Shows-runs};
 use crate::fault::Fault;
 use crate::line::lines;
 use crate::reader::Item;
 use crate::reader::read_line;
 use kayles::Board;
-use kayles::Run;
 use std::alloc::AllocError;
 use std::alloc::Global;
 
-// The lengths of the runs, each after a space.
-fn runs_shown(heap: Global, runs: &[Run]) -> Result<String, AllocError>
-    ensures { λ r. ⌜ made r (λ s. string-bytes s ≡ runs-text (now (runs .entry))) ⌝ }
+// The lengths of the runs, from the left, each after a space.
+fn runs_shown(heap: Global, board: Board) -> Result<String, AllocError>
+    ensures { λ r. ⌜ made r (λ s. Shows-runs (row board) (string-bytes s)) ⌝ }
 {
-    if runs.is_empty() {
-        return String::from_str(heap, " none");
-    }
     let mut out = String::new(heap);
-    for run in runs.iter() {
+    let mut from = 1;
+    while let Some(run) = board.next_run(from) {
         let len = run.len;
         out.push_str(format!(heap, " {len}")?.as_str())?;
+        from = run.first + len;
+    }
+    if out.is_empty() {
+        out.push_str(" none")?;
     }
     Ok(out)
 }
@@ -40,17 +42,12 @@ fn fault_shown(
 }
 
 // What is printed for a line that shows a board.
-fn board_shown(
-    heap: Global,
-    line_number: usize,
-    board: Board,
-    runs: &[Run],
-) -> Result<String, AllocError>
-    ensures { λ r. ⌜ made r (λ s. string-bytes s ≡ board-text «line_number» (row board) (now (runs .entry))) ⌝ }
+fn board_shown(heap: Global, line_number: usize, board: Board) -> Result<String, AllocError>
+    ensures { λ r. ⌜ made r (λ s. Shows-board «line_number» (row board) (string-bytes s)) ⌝ }
 {
     let pins = board.len();
     let standing = board.standing();
-    let lengths = runs_shown(heap, runs)?;
+    let lengths = runs_shown(heap, board)?;
     format!(
         heap,
         "kayles {line_number}\npins {pins} standing {standing}\nruns{lengths}\n"
@@ -70,10 +67,7 @@ fn answer(heap: Global, line_number: usize, line: &[u8]) -> Result<String, Alloc
     };
     match item {
         Item::PassedOver => Ok(String::new(heap)),
-        Item::Board(board) => {
-            let runs = board.runs(heap)?;
-            board_shown(heap, line_number, board, runs.as_slice())
-        }
+        Item::Board(board) => board_shown(heap, line_number, board),
     }
 }
 

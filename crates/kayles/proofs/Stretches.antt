@@ -54,12 +54,15 @@ same-run ps r q t u a b = λ i. record { first = first i; len = len i }
     first-at (inl h) k = absurd (u .before (t .stand (q .first - 1) (omega arith) (omega arith)))
     first-at (inr h) (inl k) = absurd (t .before (u .stand (r .first - 1) (omega arith) (omega arith)))
     first-at (inr h) (inr k) = omega arith
+
     first : r .first ≡ q .first
     first = first-at (order (r .first) (q .first)) (order (q .first) (r .first))
+
     len-at : (r .len < q .len) ⊎ (q .len ≤ r .len) → (q .len < r .len) ⊎ (r .len ≤ q .len) → r .len ≡ q .len
     len-at (inl h) k = absurd (t .after (u .stand (r .first + r .len) (omega (arith, first)) (omega (arith, first))))
     len-at (inr h) (inl k) = absurd (u .after (t .stand (q .first + q .len) (omega (arith, first)) (omega (arith, first))))
     len-at (inr h) (inr k) = omega arith
+
     len : r .len ≡ q .len
     len = len-at (order (r .len) (q .len)) (order (q .len) (r .len))
 
@@ -72,24 +75,25 @@ pub record Walked (ps : List Pin) (from i n : ℕ) : Type 0 where
 
 pub walked-none : (ps : List Pin) (from : ℕ) → Walked ps from 0 0
 walked-none ps from = record {
-    within = omega arith;
-    stand = λ k a b. absurd (omega arith);
-    before = no-pin-0 ps;
-    early = λ r t e. absurd (omega (arith, t .some));
-  }
+  within = omega arith;
+  stand = λ k a b. absurd (omega arith);
+  before = no-pin-0 ps;
+  early = λ r t e. absurd (omega (arith, t .some));
+}
 
 -- one more pin that stands
 pub walked-up : (ps : List Pin) (from i n : ℕ) → Walked ps from i n → Stands ps (i + 1) → Walked ps from (i + 1) (n + 1)
 walked-up ps from i n w s = record {
-    within = omega (arith, w .within);
-    stand = λ k a b. at k (omega (arith, w .within)) b (order k (i + 1));
-    before = λ t. w .before (subst (Stands ps) (let e : i + 1 - (n + 1) ≡ i - n = omega arith in e) t);
-    early = λ r t e. begins r t e (order (r .first + r .len) (i + 1));
-  }
+  within = omega (arith, w .within);
+  stand = λ k a b. at k (omega (arith, w .within)) b (order k (i + 1));
+  before = λ t. w .before (subst (Stands ps) (let e : i + 1 - (n + 1) ≡ i - n = omega arith in e) t);
+  early = λ r t e. begins r t e (order (r .first + r .len) (i + 1));
+}
   where
     at : (k : ℕ) → i - n < k → k ≤ i + 1 → (k < i + 1) ⊎ (i + 1 ≤ k) → Stands ps k
     at k a b (inl h) = w .stand k a (omega arith)
     at k a b (inr h) = subst (Stands ps) (let e : i + 1 ≡ k = omega arith in e) s
+
     begins : (r : Run) → Is-run ps r → r .first + r .len ≤ i + 1 → (r .first + r .len < i + 1) ⊎ (i + 1 ≤ r .first + r .len) → r .first < from
     begins r t e (inl h) = w .early r t (omega arith)
     begins r t e (inr h) = absurd (t .after (subst (Stands ps) (let e : i + 1 ≡ r .first + r .len = omega arith in e) s))
@@ -98,11 +102,11 @@ module _ (ps : List Pin) (from i n : ℕ) (w : Walked ps from i n) (d : Stands p
   -- the pins up to pin i are a run, if there are any
   last-is : (q : Run) → 0 < n → q .first + n ≡ i + 1 → q .len ≡ n → Is-run ps q
   last-is q h e l = record {
-      some = omega arith;
-      stand = λ k a b. w .stand k (omega (arith, w .within)) (omega (arith, w .within));
-      before = λ t. w .before (subst (Stands ps) (let e : q .first - 1 ≡ i - n = omega (arith, w .within) in e) t);
-      after = λ t. d (subst (Stands ps) (let e : q .first + q .len ≡ i + 1 = omega arith in e) t);
-    }
+    some = omega arith;
+    stand = λ k a b. w .stand k (omega (arith, w .within)) (omega (arith, w .within));
+    before = λ t. w .before (subst (Stands ps) (let e : q .first - 1 ≡ i - n = omega (arith, w .within) in e) t);
+    after = λ t. d (subst (Stands ps) (let e : q .first + q .len ≡ i + 1 = omega arith in e) t);
+  }
 
   -- where they are the one that is sought
   pub found-run : (q : Run) → (0 < n) × (from ≤ q .first) × (q .first + n ≡ i + 1) × (q .len ≡ n) → First-run ps from q
@@ -110,6 +114,7 @@ module _ (ps : List Pin) (from i n : ℕ) (w : Walked ps from i n) (d : Stands p
     where
       is : Is-run ps q
       is = last-is q h e l
+
       first : (p : Run) → Is-run ps p → from ≤ p .first → (p .first < q .first) ⊎ (q .first ≤ p .first) → q .first ≤ p .first
       first p t a (inr k) = k
       first p t a (inl k) = ends (order (p .first + p .len) (i + 1))
@@ -121,11 +126,11 @@ module _ (ps : List Pin) (from i n : ℕ) (w : Walked ps from i n) (d : Stands p
   -- and where they are not
   pub walked-down : (n ≡ 0) ⊎ (i + 1 < from + n) → Walked ps from (i + 1) 0
   walked-down c = record {
-      within = omega arith;
-      stand = λ k a b. absurd (omega arith);
-      before = λ t. d (subst (Stands ps) (let e : i + 1 - 0 ≡ i + 1 = omega arith in e) t);
-      early = λ r t e. begins r t e (order (r .first + r .len) (i + 1)) c;
-    }
+    within = omega arith;
+    stand = λ k a b. absurd (omega arith);
+    before = λ t. d (subst (Stands ps) (let e : i + 1 - 0 ≡ i + 1 = omega arith in e) t);
+    early = λ r t e. begins r t e (order (r .first + r .len) (i + 1)) c;
+  }
     where
       begins : (r : Run) → Is-run ps r → r .first + r .len ≤ i + 1 → (r .first + r .len < i + 1) ⊎ (i + 1 ≤ r .first + r .len) → (n ≡ 0) ⊎ (i + 1 < from + n) → r .first < from
       begins r t e (inl h) k = w .early r t (omega arith)
@@ -164,8 +169,10 @@ last-run ps from i last n o e l w = go o
   where
     v : Walked ps from last n
     v = subst (λ k. Walked ps from k n) e w
+
     d : Stands ps (last + 1) → ⊥
     d = none-past ps (last + 1) (omega arith)
+
     go : (o : Option Run) → Stretched last n from o → Next-run ps from o
     go None c = walked-all ps from (subst (λ k. Walked ps from (k + 1) 0) (sym l) (walked-down ps from last n v d c))
     go (Some q) c = found-run ps from last n v d q c

@@ -24,7 +24,11 @@ fn stretch(last: u8, len: u8, from: u8) -> Option<Run>
         return None;
     }
     let first = last - (len - 1);
-    if first < from { None } else { Some(Run { first, len }) }
+    if first < from {
+        None
+    } else {
+        Some(Run { first, len })
+    }
 }
 
 impl Board {

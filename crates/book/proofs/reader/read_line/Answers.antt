@@ -7,27 +7,27 @@ use Rattle.std.proofs.shelf.Equals.{strip-prefix-is, strip-suffix-is}
 use Rattle.std.proofs.shelf.Lists.{append-cancel-left}
 use Rattle.std.proofs.shelf.Results.{err-from-errBy}
 use Rattle.kayles.proofs.Masks.{row-few}
-use Rattle.book.specs.BoardLines.{opening}
+use Rattle.book.specs.BoardLines.{kayles-opening}
 use Rattle.book.specs.Tags.{Tagged, closing}
 use Rattle.book.proofs.Verdicts.{reads}
 use Rattle.book.proofs.reader.read_line.Needs as need
 use Rattle.book.proofs.reader.read_line.Needs.{In-Some-strip-suffix}
 
--- the line is its opening, the text and the closing
-tagged : (c : In-Some-strip-suffix) → Tagged opening (c .args .line .now) (c .in-Some-strip-suffix .text .now)
+-- the line is its kayles-opening, the text and the closing
+tagged : (c : In-Some-strip-suffix) → Tagged kayles-opening (c .args .line .now) (c .in-Some-strip-suffix .text .now)
 tagged c =
-    strip-prefix-is (c .args .line .now) opening (Some (c .in-Some .rest)) (c .in-Some .ensures tt .cases)
-    ∙ ap (λ l. opening ++ l) (strip-suffix-is (c .in-Some .rest .now) closing (Some (c .in-Some-strip-suffix .text)) (c .in-Some-strip-suffix .ensures tt .cases))
+    strip-prefix-is (c .args .line .now) kayles-opening (Some (c .in-Some .rest)) (c .in-Some .ensures tt .cases)
+    ∙ ap (λ l. kayles-opening ++ l) (strip-suffix-is (c .in-Some .rest .now) closing (Some (c .in-Some-strip-suffix .text)) (c .in-Some-strip-suffix .ensures tt .cases))
 
 pub returns-in-rest : need.returns-in-rest
-returns-in-rest c = reads _ _ (λ o. strip-prefix-is (c .args .line .now) opening None (c .in-rest .ensures tt .cases) (o .0) (o .1))
+returns-in-rest c = reads _ _ (λ o. strip-prefix-is (c .args .line .now) kayles-opening None (c .in-rest .ensures tt .cases) (o .0) (o .1))
 
 pub returns-in-rest-strip-suffix : need.returns-in-rest-strip-suffix
 returns-in-rest-strip-suffix c =
-    let head = strip-prefix-is (c .args .line .now) opening (Some (c .in-Some .rest)) (c .in-Some .ensures tt .cases) in
+    let head = strip-prefix-is (c .args .line .now) kayles-opening (Some (c .in-Some .rest)) (c .in-Some .ensures tt .cases) in
     reads _ _ (inl (record {
       opened = (c .in-Some .rest .now, head);
-      unclosed = λ text t. strip-suffix-is (c .in-Some .rest .now) closing None (c .in-rest-strip-suffix .ensures tt .cases) text (append-cancel-left opening _ _ (sym head ∙ t));
+      unclosed = λ text t. strip-suffix-is (c .in-Some .rest .now) closing None (c .in-rest-strip-suffix .ensures tt .cases) text (append-cancel-left kayles-opening _ _ (sym head ∙ t));
       fault = refl;
       place = refl;
     }))

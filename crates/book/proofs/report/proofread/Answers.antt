@@ -5,7 +5,7 @@ use Prim.Native.Nat.{ℕ, _+_}
 use lib.Chars.{codes}
 use lib.ListN.{take}
 use Rattle.std.specs.Of.String.{string-bytes}
-use Rattle.std.specs.Written.{decimal, joined as text}
+use Rattle.std.specs.Written.{decimal, joined as concat}
 use Rattle.std.proofs.shelf.Lists.{take-all}
 use Rattle.std.proofs.shelf.Parts.{pushed}
 use Rattle.std.proofs.shelf.Results.{made-weaker}
@@ -20,7 +20,7 @@ the-report book out s = (s, λ other t. same-report book other out t s)
 pub returns-then-book-gt-BOOK-LIMIT : need.returns-then-book-gt-BOOK-LIMIT
 returns-then-book-gt-BOOK-LIMIT c =
     made-weaker (c .format .result) _ (λ s. The-report (c .args .book .now) (string-bytes s))
-    (λ s e. the-report _ _ (subst (Report (c .args .book .now)) (ap (λ k. text (codes "book fault " ∷ decimal k ∷ codes "\n" ∷ [])) (sym (c .number-number .ensures)) ∙ sym e) (too-long (c .if-book-gt-BOOK-LIMIT .taken))))
+    (λ s e. the-report _ _ (subst (Report (c .args .book .now)) (ap (λ k. concat (codes "book fault " ∷ decimal k ∷ codes "\n" ∷ [])) (sym (c .number-number .ensures)) ∙ sym e) (too-long (c .if-book-gt-BOOK-LIMIT .taken))))
     (c .format .ensures .made)
 
 pub loop-i-holds : need.loop-i-holds

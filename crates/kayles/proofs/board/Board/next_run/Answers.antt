@@ -17,9 +17,10 @@ loop-passed-again c =
     let from = c .args .from in
     let i = c .loop-passed .passed in
     elim (c .if-stands .came) [
-      then-stands w ↦ subst (Walked ps from (i + 1)) (sym (w .len-is)) (walked-up ps from i _ (c .loop-passed .inv) (c .stands .ensures .0 (w .if-stands .taken)))
-    | else-stands·else-is-some w ↦ subst (Walked ps from (i + 1)) (sym (w .len-is))
-        (none-run ps from i _ (c .loop-passed .inv) (λ s. false≢true (sym (w .if-stands .left) ∙ c .stands .ensures .1 s)) _ (sym (w .if-is-some .ensures tt)) (w .stretch-ended .ensures)) ]
+      | then-stands w ↦ subst (Walked ps from (i + 1)) (sym (w .len-is)) (walked-up ps from i _ (c .loop-passed .inv) (c .stands .ensures .0 (w .if-stands .taken)))
+      | else-stands·else-is-some w ↦ subst (Walked ps from (i + 1)) (sym (w .len-is))
+          (none-run ps from i _ (c .loop-passed .inv) (λ s. false≢true (sym (w .if-stands .left) ∙ c .stands .ensures .1 s)) _ (sym (w .if-is-some .ensures tt)) (w .stretch-ended .ensures))
+    ]
 
 pub returns-then-is-some : need.returns-then-is-some
 returns-then-is-some c =
