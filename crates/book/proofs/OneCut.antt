@@ -1,7 +1,7 @@
--- A book has one list of lines.
+-- A book has one first line, and one list of lines.
 use mathlib.Core.Path.{_≡_, refl, sym, ap, ap₂, subst, _∙_}
 use mathlib.Core.List.{List, [], _∷_, _++_, map, append-assoc, append-nil}
-use mathlib.Core.Logic.{_⊎_, inl, inr}
+use mathlib.Core.Logic.{_⊎_, inl, inr, ⊎-elim}
 use Prim.Native.Nat.{ℕ, zero, suc, _<_}
 use native.Mathlib.Omega.{arith}
 use lib.ListN.{length, getD, length-append}
@@ -10,7 +10,7 @@ use Rattle.std.proofs.shelf.Lists.{same-from-push}
 use Rattle.book.specs.declared.line.Ending.{Ending}
 use Rattle.book.specs.declared.line.Ending.the-variants.{Feed, ReturnFeed, End, ReturnEnd}
 use Rattle.book.specs.declared.line.Line.{Line}
-use Rattle.book.specs.Lines.{LF, CR, mark, whole, plain, Fed, Returned, Is-line, Well-ended, Lines-of}
+use Rattle.book.specs.Lines.{LF, CR, mark, whole, plain, Fed, Returned, Is-line, Well-ended, Lines-of, First-line}
 
 -- a list without a line feed
 abbrev Unbroken : List ℕ → Type 0
@@ -68,7 +68,10 @@ body-unbroken l i = go (l .ending)
     go ReturnEnd = unbroken-more (l .text .now) CR text (λ e. absurd (omega arith))
 
 -- the two ways in which a line can end
-whole-is : (l : Line) → (Fed (l .ending) × (whole l ≡ body l ++ LF ∷ [])) ⊎ ((Fed (l .ending) → ⊥) × (whole l ≡ body l))
+abbrev Ends : Line → Type 0
+Ends l = (Fed (l .ending) × (whole l ≡ body l ++ LF ∷ [])) ⊎ ((Fed (l .ending) → ⊥) × (whole l ≡ body l))
+
+whole-is : (l : Line) → Ends l
 whole-is l = go (l .ending)
   where
     t : List ℕ
@@ -99,66 +102,67 @@ same-line t u ReturnEnd ReturnFeed q a b v w = absurd (b tt)
 same-line t u ReturnEnd End q a b v w = absurd (w t (sym (append-nil u) ∙ sym q))
 same-line t u ReturnEnd ReturnEnd q a b v w = ap (λ x. (x, ReturnEnd)) (same-from-push t u CR CR q .0)
 
+-- a line that ends in a line feed, and one that ends with the book
+fed-front : (l : Line) (rest : List ℕ) → whole l ≡ body l ++ LF ∷ [] → whole l ++ rest ≡ body l ++ LF ∷ rest
+fed-front l rest w = ap (λ y. y ++ rest) w ∙ append-assoc (body l) (LF ∷ []) rest
+
+no-rest : {book rest : List ℕ} (l : Line) → First-line book l rest → (Fed (l .ending) → ⊥) → rest ≡ []
+no-rest l f n = ⊎-elim (λ x. absurd (n x)) (λ e. e) (f .ends)
+
+last-front : {book rest : List ℕ} (l : Line) → First-line book l rest → (Fed (l .ending) → ⊥) → whole l ≡ body l → whole l ++ rest ≡ body l
+last-front l f n w = ap (λ r. whole l ++ r) (no-rest l f n) ∙ append-nil (whole l) ∙ w
+
+-- a book has one first line, and one rest
+pub same-first-line : (book : List ℕ) (l m : Line) (r s : List ℕ) → First-line book l r → First-line book m s → (plain l ≡ plain m) × (r ≡ s)
+same-first-line book l m r s f g = go (whole-is l) (whole-is m)
+  where
+    i : Is-line l
+    i = f .is-line
+
+    j : Is-line m
+    j = g .is-line
+
+    e : whole l ++ r ≡ whole m ++ s
+    e = f .together ∙ sym (g .together)
+
+    alike : body l ≡ body m → (Fed (l .ending) → Fed (m .ending)) → (Fed (m .ending) → Fed (l .ending)) → plain l ≡ plain m
+    alike b x y = same-line (l .text .now) (m .text .now) (l .ending) (m .ending) b x y (i .stripped) (j .stripped)
+
+    go : Ends l → Ends m → (plain l ≡ plain m) × (r ≡ s)
+    go (inl v) (inl w) =
+        let c = same-feed (body l) (body m) r s (body-unbroken l i) (body-unbroken m j) (sym (fed-front l r (v .1)) ∙ e ∙ fed-front m s (w .1)) in
+        (alike (c .0) (λ x. w .0) (λ x. v .0), c .1)
+    go (inl v) (inr w) = absurd (no-feed (body l) (body m) r (body-unbroken m j) (sym (fed-front l r (v .1)) ∙ e ∙ last-front m g (w .0) (w .1)))
+    go (inr v) (inl w) = absurd (no-feed (body m) (body l) s (body-unbroken l i) (sym (fed-front m s (w .1)) ∙ sym e ∙ last-front l f (v .0) (v .1)))
+    go (inr v) (inr w) =
+        let b : body l ≡ body m = sym (last-front l f (v .0) (v .1)) ∙ e ∙ last-front m g (w .0) (w .1) in
+        (alike b (λ x. absurd (v .0 x)) (λ x. absurd (w .0 x)), no-rest l f (v .0) ∙ sym (no-rest m g (w .0)))
+
 -- what Well-ended says of the first line, and of the others
-first-is : (l : Line) (ls : List Line) → Well-ended (l ∷ ls) → Is-line l
-first-is l [] o = o .0
-first-is l (m ∷ ls) o = o .0
-
-rest-order : (l : Line) (ls : List Line) → Well-ended (l ∷ ls) → Well-ended ls
-rest-order l [] o = tt
-rest-order l (m ∷ ls) o = o .2
-
-last-only : (l : Line) (ls : List Line) → Well-ended (l ∷ ls) → (Fed (l .ending) → ⊥) → ls ≡ []
-last-only l [] o n = refl
-last-only l (m ∷ ls) o n = absurd (n (o .1))
-
 some-bytes : (l : Line) (ls : List Line) → Well-ended (l ∷ ls) → 0 < length (whole l)
 some-bytes l ls o = go (whole-is l) ls o
   where
-    go : (Fed (l .ending) × (whole l ≡ body l ++ LF ∷ [])) ⊎ ((Fed (l .ending) → ⊥) × (whole l ≡ body l)) → (ls : List Line) → Well-ended (l ∷ ls) → 0 < length (whole l)
+    go : Ends l → (ls : List Line) → Well-ended (l ∷ ls) → 0 < length (whole l)
     go (inl w) ls o = omega (arith, ap length (w .1), length-append (body l) (LF ∷ []))
     go (inr w) [] (i, inl f) = absurd (w .0 f)
     go (inr w) [] (i, inr h) = h
     go (inr w) (m ∷ ls) o = absurd (w .0 (o .1))
 
--- two lines at the front of one book are the same, and what follows them is
-same-front : (l m : Line) (ls ms : List Line) → Well-ended (l ∷ ls) → Well-ended (m ∷ ms) → whole l ++ joined whole ls ≡ whole m ++ joined whole ms → (plain l ≡ plain m) × (joined whole ls ≡ joined whole ms)
-same-front l m ls ms o p e = go (whole-is l) (whole-is m)
-  where
-    i : Is-line l
-    i = first-is l ls o
+first-of : (l : Line) (ls : List Line) → Well-ended (l ∷ ls) → First-line (whole l ++ joined whole ls) l (joined whole ls)
+first-of l [] o = record { together = refl; is-line = o .0; some = some-bytes l [] o; ends = inr refl }
+first-of l (m ∷ ls) o = record { together = refl; is-line = o .0; some = some-bytes l (m ∷ ls) o; ends = inl (o .1) }
 
-    j : Is-line m
-    j = first-is m ms p
-
-    Ends : Line → Type 0
-    Ends x = (Fed (x .ending) × (whole x ≡ body x ++ LF ∷ [])) ⊎ ((Fed (x .ending) → ⊥) × (whole x ≡ body x))
-
-    fed : (x : Line) (xs : List Line) → whole x ≡ body x ++ LF ∷ [] → whole x ++ joined whole xs ≡ body x ++ LF ∷ joined whole xs
-    fed x xs w = ap (λ y. y ++ joined whole xs) w ∙ append-assoc (body x) (LF ∷ []) (joined whole xs)
-
-    last : (x : Line) (xs : List Line) → Well-ended (x ∷ xs) → (Fed (x .ending) → ⊥) → whole x ≡ body x → whole x ++ joined whole xs ≡ body x
-    last x xs o n w = ap (λ ys. whole x ++ joined whole ys) (last-only x xs o n) ∙ append-nil (whole x) ∙ w
-
-    go : Ends l → Ends m → (plain l ≡ plain m) × (joined whole ls ≡ joined whole ms)
-    go (inl v) (inl w) =
-        let s = same-feed (body l) (body m) (joined whole ls) (joined whole ms) (body-unbroken l i) (body-unbroken m j) (sym (fed l ls (v .1)) ∙ e ∙ fed m ms (w .1)) in
-        (same-line (l .text .now) (m .text .now) (l .ending) (m .ending) (s .0) (λ f. w .0) (λ f. v .0) (i .stripped) (j .stripped), s .1)
-    go (inl v) (inr w) = absurd (no-feed (body l) (body m) (joined whole ls) (body-unbroken m j) (sym (fed l ls (v .1)) ∙ e ∙ last m ms p (w .0) (w .1)))
-    go (inr v) (inl w) = absurd (no-feed (body m) (body l) (joined whole ms) (body-unbroken l i) (sym (fed m ms (w .1)) ∙ sym e ∙ last l ls o (v .0) (v .1)))
-    go (inr v) (inr w) =
-        let s : body l ≡ body m = sym (last l ls o (v .0) (v .1)) ∙ e ∙ last m ms p (w .0) (w .1) in (
-          same-line (l .text .now) (m .text .now) (l .ending) (m .ending) s (λ f. absurd (v .0 f)) (λ f. absurd (w .0 f)) (i .stripped) (j .stripped),
-          ap (joined whole) (last-only l ls o (v .0)) ∙ sym (ap (joined whole) (last-only m ms p (w .0))),
-        )
+others : (l : Line) (ls : List Line) → Well-ended (l ∷ ls) → Well-ended ls
+others l [] o = tt
+others l (m ∷ ls) o = o .2
 
 same-order : (ls ms : List Line) → Well-ended ls → Well-ended ms → joined whole ls ≡ joined whole ms → map plain ls ≡ map plain ms
 same-order [] [] o p e = refl
 same-order [] (m ∷ ms) o p e = absurd (omega (arith, some-bytes m ms p, ap length e, length-append (whole m) (joined whole ms)))
 same-order (l ∷ ls) [] o p e = absurd (omega (arith, some-bytes l ls o, ap length e, length-append (whole l) (joined whole ls)))
 same-order (l ∷ ls) (m ∷ ms) o p e =
-    let s = same-front l m ls ms o p e in
-    ap₂ _∷_ (s .0) (same-order ls ms (rest-order l ls o) (rest-order m ms p) (s .1))
+    let s = same-first-line (whole m ++ joined whole ms) l m (joined whole ls) (joined whole ms) (subst (λ b. First-line b l (joined whole ls)) e (first-of l ls o)) (first-of m ms p) in
+    ap₂ _∷_ (s .0) (same-order ls ms (others l ls o) (others m ms p) (s .1))
 
 pub same-lines : (book : List ℕ) (ls ms : List Line) → Lines-of book ls → Lines-of book ms → map plain ls ≡ map plain ms
 same-lines book ls ms a b = same-order ls ms (a .well-ended) (b .well-ended) (a .together ∙ sym (b .together))

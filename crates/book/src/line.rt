@@ -5,7 +5,7 @@ ghost use Prim.Native.Nat.{ℕ, _<_, _≤_};
 ghost use Rattle.std.specs.Of.Vec.{vec-items};
 ghost use Rattle.std.specs.Options.{Cases};
 ghost use Rattle.std.specs.Vec.{made};
-ghost use Rattle.book.specs.Lines.{First-line, The-lines};
+ghost use Rattle.book.specs.Lines.{LF, The-first-line, The-lines};
 use std::alloc::AllocError;
 use std::alloc::Global;
 
@@ -28,8 +28,8 @@ pub struct Line<'a> {
 // Where the first line feed stands, or the length where there is none.
 fn feed_at(book: &[u8]) -> usize
     ensures within { λ r. ⌜ r ≤ length (now (book .entry)) ⌝ }
-    ensures before { λ r. ⌜ ((k : ℕ) → k < r → getD (now (book .entry)) k 0 ≡ 10 → ⊥) ⌝ }
-    ensures here { λ r. ⌜ (r < length (now (book .entry)) → getD (now (book .entry)) r 0 ≡ 10) ⌝ }
+    ensures before { λ r. ⌜ ((k : ℕ) → k < r → getD (now (book .entry)) k 0 ≡ LF → ⊥) ⌝ }
+    ensures here { λ r. ⌜ (r < length (now (book .entry)) → getD (now (book .entry)) r 0 ≡ LF) ⌝ }
 {
     for (i, byte) in book.iter().enumerate() {
         if *byte == b'\n' {
@@ -41,7 +41,7 @@ fn feed_at(book: &[u8]) -> usize
 
 // The first line of a book and the rest of the book; an empty book has none.
 pub fn first_line<'a>(book: &'a [u8]) -> Option<(Line<'a>, &'a [u8])>
-    ensures { λ r. ⌜ Cases r (now (book .entry) ≡ []) (λ p. First-line (now (book .entry)) (p .0) (now (p .1))) ⌝ }
+    ensures { λ r. ⌜ Cases r (now (book .entry) ≡ []) (λ p. The-first-line (now (book .entry)) (p .0) (now (p .1))) ⌝ }
 {
     if book.is_empty() {
         return None;

@@ -9,10 +9,10 @@ loop-line-holds c = subst (λ ls. Sofar (c .args .book .now) ls (c .args .book .
 pub loop-line-again : need.loop-line-again
 loop-line-again c =
     subst (λ ls. Sofar (c .args .book .now) ls (c .in-Some .after .now)) (sym (c .in-Continue-push .ensures tt .items))
-    (sofar-more _ _ _ _ _ (c .loop-line .inv) (c .in-Some .ensures tt))
+    (sofar-more _ _ _ _ _ (c .loop-line .inv) (c .in-Some .ensures tt .0))
 
 pub loop-line-less : need.loop-line-less
-loop-line-less c = shorter _ _ _ (c .in-Some .ensures tt)
+loop-line-less c = shorter _ _ _ (c .in-Some .ensures tt .0)
 
 pub returns : need.returns
 returns c = let is = sofar-all _ _ _ (c .in-rest .ensures tt) (c .loop-line .inv) in (is, λ ms m. same-lines _ ms _ m is)
