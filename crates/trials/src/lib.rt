@@ -1,9 +1,14 @@
 // Tests of the crates below through their public calls, beside answers worked out by hand.
 #[cfg(test)]
 mod tests {
+    use book::Ending;
     use book::Item;
+    use book::first_line;
+    use book::lines;
     use book::proofread;
     use book::read_line;
+    use kayles::Board;
+    use kayles::Pin;
     use std::alloc::AllocError;
     use std::alloc::Global;
     use std::test::*;
@@ -18,6 +23,17 @@ mod tests {
         match read_line(line) {
             Ok(_) => (0, 0),
             Err(refusal) => (refusal.fault.number(), refusal.column),
+        }
+    }
+
+    // The board of a line that is accepted.
+    fn shown(line: &[u8]) -> Option<Board> {
+        let Ok(item) = read_line(line) else {
+            return None;
+        };
+        match item {
+            Item::Board(board) => Some(board),
+            Item::PassedOver => None,
         }
     }
 
@@ -97,6 +113,20 @@ mod tests {
     }
 
     #[test]
+    fn cutting_off_lines(rt: LibcRuntime) -> Result<(), Fail> {
+        check(first_line(b"").is_none())?;
+        let Some((line, rest)) = first_line(b"a\r\r\n\nb") else {
+            return Err(Fail::new("no first line"));
+        };
+        check(line.text == b"a\r" && rest == b"\nb")?;
+        check(matches!(line.ending, Ending::ReturnFeed))?;
+        let found = lines(rt.alloc(), b"a\r\r\n\nb")?;
+        check(found.len() == 3)?;
+        check(found[1].text.is_empty() && found[2].text == b"b")?;
+        check(matches!(found[2].ending, Ending::End))
+    }
+
+    #[test]
     fn the_longest_book(rt: LibcRuntime) -> Result<(), Fail> {
         let heap = rt.alloc();
         let mut book = vec![in heap; b'\n'; 8180]?;
@@ -115,14 +145,30 @@ mod tests {
     // The pins of an accepted board, by number; 0 and 6 are not on it.
     #[test]
     fn pins_of_a_board() -> Result<(), Fail> {
-        let Ok(item) = read_line(b"[Kayles \"X.XX.\"]") else {
-            return Err(Fail::new("refused"));
+        let Some(board) = shown(b"[Kayles \"X.XX.\"]") else {
+            return Err(Fail::new("no board"));
         };
-        let Item::Board(board) = item else {
-            return Err(Fail::new("passed over"));
-        };
-        check_eq(board.len(), 5)?;
+        check(board.len() == 5 && board.standing() == 3)?;
         check(board.stands(1) && !board.stands(2) && board.stands(3) && board.stands(4))?;
         check(!board.stands(0) && !board.stands(5) && !board.stands(6))
+    }
+
+    #[test]
+    fn runs_of_a_board() -> Result<(), Fail> {
+        let Some(one) = Board::empty().with(Pin::Standing) else {
+            return Err(Fail::new("full"));
+        };
+        check(one.next_run(2).is_none())?;
+        let Some(run) = one.next_run(0) else {
+            return Err(Fail::new("no run"));
+        };
+        check_eq((run.first, run.len), (1, 1))?;
+        let Some(board) = shown(b"[Kayles \".XX.XXX\"]") else {
+            return Err(Fail::new("no board"));
+        };
+        let Some(run) = board.next_run(3) else {
+            return Err(Fail::new("no run"));
+        };
+        check_eq((run.first, run.len), (5, 3))
     }
 }
