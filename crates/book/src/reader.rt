@@ -19,11 +19,13 @@ use kayles::MOST_PINS;
 // What a line says that is not refused.
 #[derive(Clone, Copy)]
 pub enum Item {
+    // It is no board line, and nothing is printed for it.
     PassedOver,
+    // It shows this board.
     Board(Board),
 }
 
-// A board line begins with the one and ends with the other.
+// How a board line begins, and how it ends.
 const KAYLES_OPENING: &[u8] = b"[Kayles \"";
 
 const CLOSING: &[u8] = b"\"]";

@@ -12,7 +12,7 @@ use kayles::Board;
 use std::alloc::AllocError;
 use std::alloc::Global;
 
-// The lengths of the runs, from the left, each after a space.
+// The lengths of the runs, from the left, each after a space, or a word where there are none.
 fn runs_shown(heap: Global, board: Board) -> Result<String, AllocError>
     ensures { λ r. ⌜ made r (λ s. Shows-runs (row board) (string-bytes s)) ⌝ }
 {
