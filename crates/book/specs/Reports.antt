@@ -22,6 +22,7 @@ use Rattle.book.specs.Tags.{Opened}
 abbrev pub lengths-text : List Run → List ℕ
 lengths-text rs = joined (λ r. codes " " ++ decimal (r .len)) rs
 
+-- the same, or a word where there are none
 abbrev pub runs-text : List Run → List ℕ
 runs-text [] = codes " none"
 runs-text (r ∷ rs) = lengths-text (r ∷ rs)

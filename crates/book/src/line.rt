@@ -12,9 +12,13 @@ use std::alloc::Global;
 // How a line ends: at a line feed or at the book's end, with or without a carriage return just before.
 #[derive(Clone, Copy)]
 pub enum Ending {
+    // A line feed.
     Feed,
+    // A carriage return and a line feed.
     ReturnFeed,
+    // The book's end.
     End,
+    // A carriage return and the book's end.
     ReturnEnd,
 }
 

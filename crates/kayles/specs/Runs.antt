@@ -24,6 +24,7 @@ pub record First-run (ps : List Pin) (from : ℕ) (r : Run) : Type 0 where
 abbrev pub No-run : List Pin → ℕ → Type 0
 No-run ps from = (r : Run) → Is-run ps r → r .first < from
 
+-- what a list is read as past its end; it is no run
 abbrev pub no-run : Run
 no-run = record { first = 0; len = 0 }
 
