@@ -1,0 +1,4 @@
+pub mod Worth
+pub mod Soundness
+pub mod BareSearch
+pub mod Thrift

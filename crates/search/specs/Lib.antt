@@ -1,0 +1,9 @@
+pub mod Games
+pub mod Sets
+pub mod Minimax
+pub mod Entries
+pub mod Tables
+pub mod Visits
+pub mod Bare
+pub mod Calls
+pub mod Promises

@@ -1,0 +1,10 @@
+mod call;
+mod entry;
+pub use call::Answer;
+pub use call::BestMove;
+pub use call::Call;
+pub use call::CallError;
+pub use call::Reply;
+pub use call::Solution;
+pub use entry::Bound;
+pub use entry::Entry;
