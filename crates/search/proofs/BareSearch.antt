@@ -11,7 +11,7 @@ use Rattle.search.specs.Games.{Game-laws, Legal, Live, Rules}
 use Rattle.search.specs.Minimax.{Says, worth}
 use Rattle.search.specs.Sets.{Set-laws, Sets}
 use Rattle.search.specs.Visits.{rest-of, settled}
-use Rattle.search.proofs.Soundness.{move-says, moves-say, settled-says, unsettled}
+use Rattle.search.proofs.Soundness.{move-says, moves-say, settled-says, twice-not, unsettled}
 
 -- Only one answer is right.
 pub says-one : (a c : Bool) (b w : ℕ) → Says a b w → Says c b w → a ≡ c
@@ -104,10 +104,6 @@ module _ {P : Type 0} (R : Rules P) (L : Game-laws R) where
     bare-moves-say : (f : P → ℕ → Count) (p : P) (b l i : ℕ) → 0 < b → Live R p → i + l ≡ R .moves p → ((j c : ℕ) → Legal R p j → Says (f (R .after p j) c .0) c (worth R (R .after p j))) → ((j : ℕ) → j < i → Says (not (R .counting p)) (rest-of R p b j) (worth R (R .after p j))) → Says (bare-moves R f p b l i .0) b (worth R p)
     unfolding bare-moves
     bare-moves-say f p b zero i hb hl e h t = moves-say R Z L K (not (R .counting p)) p b hl (λ j k. t j (omega arith)) (twice-not (R .counting p))
-      where
-        twice-not : (c : Bool) → c ≡ not (not c)
-        twice-not true = refl
-        twice-not false = refl
     bare-moves-say f p b (suc l) i hb hl e h t =
         let s = h i (rest-of R p b i) (omega arith) in
         then-says (λ a. Says a b (worth R p)) (R .counting p) (f (R .after p i) (rest-of R p b i)) (bare-moves R f p b l (suc i))

@@ -26,6 +26,10 @@ some-none e = let z : _≡_ {A = ℕ} 0 1 = cc in omega arith
 pub some-same : {A : Type 0} {a b : A} → Some a ≡ Some b → a ≡ b
 some-same e = cc
 
+pub twice-not : (c : Bool) → c ≡ not (not c)
+twice-not true = refl
+twice-not false = refl
+
 leb-says : (b v : ℕ) → Says (leb b v) b v
 leb-says b v = go (leb b v) refl
   where
@@ -159,10 +163,6 @@ module _ {P S : Type 0} (R : Rules P) (Z : Sets P S) (L : Game-laws R) (K : Set-
         own = λ k l. put-all (t .through) i s k l (λ n v. In Z v (R .after p n)) (t .own k) h;
         alike = λ k l. put-all (t .through) i s k l (λ n v. (q : P) → In Z v q → Says (not (R .counting p)) (rest-of R p b n) (worth R q)) (t .alike k) f
       }
-
-  twice-not : (c : Bool) → c ≡ not (not c)
-  twice-not true = refl
-  twice-not false = refl
 
   -- Members of the cover of moves that all fail have the other answer.
   cover-says : (p : P) (b : ℕ) (acc : S) → Live R p → Failed p b (R .moves p) acc → (q : P) → In Z acc q → Says (not (R .counting p)) b (worth R q)

@@ -3,6 +3,7 @@ use mathlib.Core.Bool.{Bool}
 use mathlib.Core.List.{List}
 use mathlib.Core.Path.{_≡_}
 use Prim.Native.Nat.{ℕ, _+_, _≤_, _<_}
+use Rattle.search.specs.declared.game.Child.{Child}
 
 -- A position has at most this many moves.
 abbrev pub most-moves : ℕ
@@ -61,3 +62,10 @@ pub record Game-laws {P : Type 0} (R : Rules P) : Type 0 where
   pub low-height : (p : P) → R .height p ≤ most-points
   -- a position's own row gives that position
   pub row-back : (p : P) → R .position (R .row p) ≡ p
+
+-- What a game answers for move m of p, where moved says which move has a number.
+pub record Is-child {P M : Type 0} (R : Rules P) (moved : P → ℕ → M) (p : P) (m : ℕ) (c : Child P M) : Type 0 where
+  pub legal : Legal R p m
+  pub position : c .position ≡ R .after p m
+  pub gain : c .gain ≡ R .gain p m
+  pub played : c .played ≡ moved p m

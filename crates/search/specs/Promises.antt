@@ -1,6 +1,6 @@
 -- What is promised of minimax, of every visit and of every list of calls.
 use mathlib.Core.Bool.{Bool, true, false}
-use mathlib.Core.List.{List}
+use mathlib.Core.List.{List, [], _∷_}
 use mathlib.Core.Logic.{_⊎_, _↔_}
 use mathlib.Core.Path.{_≡_}
 use Prim.Native.Nat.{ℕ, _≤_}
@@ -73,9 +73,17 @@ module _ {P S X : Type 0} (R : Rules P) (Z : Sets P S) (D : Memory P S X) where
   abbrev pub Visits-repeat : Type 0
   Visits-repeat = (p : P) (b : ℕ) (x : X) (a : Bool) (s : S) (y : X) (n : ℕ) (c : Bool) (t : S) (z : X) (m : ℕ) → D .retains x → All-true R Z D x → Visit R Z D p b x a s y n → Visit R Z D p b y c t z m → m ≡ 1
 
-  -- Every position can be visited at every bound, whatever the table is, and the visit ends.
+  -- A visit of p at b that finds the table x.
+  pub record Visited (p : P) (b : ℕ) (x : X) : Type 0 where
+    pub answer : Bool
+    pub set : S
+    pub table : X
+    pub count : ℕ
+    pub visit : Visit R Z D p b x answer set table count
+
+  -- Where look and keep always come to something, every position can be visited at every bound, and the visit ends.
   abbrev pub Visits-end : Type 0
-  Visits-end = Total D → (p : P) (b : ℕ) (x : X) → (a : Bool) × ((s : S) × ((y : X) × ((n : ℕ) × Visit R Z D p b x a s y n)))
+  Visits-end = Total D → (p : P) (b : ℕ) (x : X) → Visited p b x
 
   -- The reply is the right one to the call.
   pub data Right : Call P → Reply → Type 0 where
@@ -106,20 +114,29 @@ module _ {P S X : Type 0} (R : Rules P) (Z : Sets P S) (D : Memory P S X) where
     pub blank-after : c ≡ Wipe → Blank D y
     pub thrifty : Query-thrifty d
 
-  -- Of two calls in turn, c replied to by r and c′ by r′: an accepted query accepted again takes one visit, if the table
-  -- always holds what it was offered last.
-  abbrev pub Repeat-kept : Call P → X → Reply → Call P → Reply → Type 0
-  Repeat-kept c x r c′ r′ = D .retains x → (p : P) (b k k′ : ℕ) (a a′ : Answer) → c ≡ Query p b k → r ≡ Answered a → c′ ≡ Query p b k′ → r′ ≡ Answered a′ → a′ .visits ≡ 1
+  -- Of two calls in turn, c replied to by r and c′ by r′: an accepted query that is accepted again takes one visit.
+  abbrev pub Repeat-kept : Call P → Reply → Call P → Reply → Type 0
+  Repeat-kept c r c′ r′ = (p : P) (b k k′ : ℕ) (a a′ : Answer) → c ≡ Query p b k → r ≡ Answered a → c′ ≡ Query p b k′ → r′ ≡ Answered a′ → a′ .visits ≡ 1
 
-  abbrev pub Next-kept : {x y : X} {cs : List (Call P)} {rs : List Reply} → Call P → X → Reply → Calls R Z D y cs rs x → Type 0
-  Next-kept c x r done = Unit {0}
-  Next-kept c x r (next {c = c′} {r = r′} d k) = Repeat-kept c x r c′ r′
+  -- What is promised of each call of a list.
+  abbrev pub Each-kept : {x y : X} {cs : List (Call P)} {rs : List Reply} → Calls R Z D x cs rs y → Type 0
+  Each-kept done = Unit {0}
+  Each-kept (next {c = c} {x = x} {y = y} {r = r} d k) = Call-kept c x r y d × Each-kept k
 
-  -- What is promised of a list of calls: of each call in turn, and of each with the one after it.
-  abbrev pub Calls-kept : {x y : X} {cs : List (Call P)} {rs : List Reply} → Calls R Z D x cs rs y → Type 0
-  Calls-kept done = Unit {0}
-  Calls-kept (next {c = c} {x = x} {y = y} {r = r} d k) = Call-kept c x r y d × Next-kept c x r k × Calls-kept k
+  -- What is promised of each call of a list and the one straight after it.
+  abbrev pub Repeats-kept : List (Call P) → List Reply → Type 0
+  Repeats-kept (c ∷ (c′ ∷ cs)) (r ∷ (r′ ∷ rs)) = Repeat-kept c r c′ r′ × Repeats-kept (c′ ∷ cs) (r′ ∷ rs)
+  Repeats-kept (c ∷ (c′ ∷ cs)) (r ∷ []) = Unit {0}
+  Repeats-kept (c ∷ (c′ ∷ cs)) [] = Unit {0}
+  Repeats-kept (c ∷ []) rs = Unit {0}
+  Repeats-kept [] rs = Unit {0}
 
-  -- From opening on, which wipes the table, every list of calls keeps what is promised.
+  -- What is promised of a solver opened over the table x, which is wiped to y, and then given the calls cs.
+  pub record Session-kept (x y z : X) (cs : List (Call P)) (rs : List Reply) (k : Calls R Z D y cs rs z) : Type 0 where
+    pub opened : Blank D y
+    pub each : Each-kept k
+    -- if the table always holds what it was offered last
+    pub repeats : D .retains x → Repeats-kept cs rs
+
   abbrev pub Sessions-kept : Type 0
-  Sessions-kept = (x y z : X) (cs : List (Call P)) (rs : List Reply) → D .wipes x y → (k : Calls R Z D y cs rs z) → Blank D y × Calls-kept k
+  Sessions-kept = (x y z : X) (cs : List (Call P)) (rs : List Reply) → D .wipes x y → (k : Calls R Z D y cs rs z) → Session-kept x y z cs rs k
