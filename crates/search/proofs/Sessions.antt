@@ -20,7 +20,7 @@ use Rattle.search.specs.Sets.{Set-laws, Sets}
 use Rattle.search.specs.Tables.{All-true, Blank, Memory, Memory-laws}
 use Rattle.search.specs.Visits.{Visit, capped}
 use Rattle.search.proofs.Soundness.{some-none, visit-sound}
-use Rattle.search.proofs.Thrift.{visit-again, visit-retains, visit-thrifty}
+use Rattle.search.proofs.Thrift.{told-thrifty, visit-again, visit-retains}
 use Rattle.search.proofs.Worth.{worth-least, worth-most, worth-top}
 
 module _ {P S : Type 0} (R : Rules P) (Z : Sets P S) (L : Game-laws R) (K : Set-laws R Z) where
@@ -57,7 +57,7 @@ module _ {P S : Type 0} (R : Rules P) (Z : Sets P S) (L : Game-laws R) (K : Set-
 
     call-kept : {c : Call P} {x : X} {r : Reply} {y : X} → (d : Does R Z D c x r y) → All-true R Z D x → Call-kept R Z D c x r y d
     call-kept (refused {c = c} {x = x} {e = f} e) t = record { right = refuses e; true-after = t; blank-after = λ q. absurd (some-none (sym (subst (λ c. refusal R c ≡ Some (number f)) q e))); thrifty = tt }
-    call-kept (queried e v) t = let o = visit-sound R Z L K D E v t in record { right = answers e (o .answer); true-after = o .kept; blank-after = no-wipe (λ q. cc); thrifty = visit-thrifty R Z L K D E v t }
+    call-kept (queried e v) t = let o = visit-sound R Z L K D E v t in record { right = answers e (o .answer); true-after = o .kept; blank-after = no-wipe (λ q. cc); thrifty = told-thrifty R Z L K D E v t }
     call-kept (solved e k) t = let o = solving k (omega arith) (omega arith) t in record { right = solves e (o .0); true-after = o .1; blank-after = no-wipe (λ q. cc); thrifty = tt }
     call-kept (chosen e k l) t =
         let o = solving k (omega arith) (omega arith) t in

@@ -94,8 +94,12 @@ module _ {P S : Type 0} (R : Rules P) (Z : Sets P S) (L : Game-laws R) (K : Set-
   short-one (by-move {p = p} {b = b} {x = x} e l r j v k) h = absurd (not-short p b x e l h)
   short-one (by-cover {p = p} {b = b} {x = x} e l r k) h = absurd (not-short p b x e l h)
 
-  pub visit-thrifty : {p : P} {b : ℕ} {x : X} {a : Bool} {s : S} {y : X} {n : ℕ} (v : Visit R Z D p b x a s y n) → All-true R Z D x → Thrifty R Z D p b x a s y n v
-  visit-thrifty {n = n} v t = record {
+  pub visit-thrifty : {p : P} {b : ℕ} {x : X} {a : Bool} {s : S} {y : X} {n : ℕ} (v : Visit R Z D p b x a s y n) → All-true R Z D x → Thrifty R Z D (λ n. n) p b x a s y n v
+  visit-thrifty v t = record { most = visit-most v t; unaided = visit-equal v t; one = (one-short v, short-one v) }
+
+  -- The same of the counts that are told.
+  pub told-thrifty : {p : P} {b : ℕ} {x : X} {a : Bool} {s : S} {y : X} {n : ℕ} (v : Visit R Z D p b x a s y n) → All-true R Z D x → Thrifty R Z D capped p b x a s y n v
+  told-thrifty v t = record {
     most = let h = visit-most v t in omega arith;
     unaided = λ u. ap capped (visit-equal v t u);
     one = (λ h. one-short v (omega arith), λ h. let e = short-one v h in omega arith)

@@ -57,17 +57,17 @@ module _ {P S X : Type 0} (R : Rules P) (Z : Sets P S) (D : Memory P S X) where
   abbrev pub Short : P → ℕ → X → Type 0
   Short p b x = ((a : Bool) × (settled R p b ≡ Some a)) ⊎ Decided Z D x p b
 
-  -- What is promised of the n visits that a visit comes to, held at the limit as they are told.
-  pub record Thrifty (p : P) (b : ℕ) (x : X) (a : Bool) (s : S) (y : X) (n : ℕ) (v : Visit R Z D p b x a s y n) : Type 0 where
+  -- What is promised of the n visits of a visit, where hold says how counts are held: as they are, or at a limit.
+  pub record Thrifty (hold : ℕ → ℕ) (p : P) (b : ℕ) (x : X) (a : Bool) (s : S) (y : X) (n : ℕ) (v : Visit R Z D p b x a s y n) : Type 0 where
     -- at most those of the bare search
-    pub most : capped n ≤ capped (bare-visits R p b)
+    pub most : hold n ≤ hold (bare-visits R p b)
     -- equal to them where the table holds no entry at any visit
-    pub unaided : Unaided R Z D v → capped n ≡ capped (bare-visits R p b)
+    pub unaided : Unaided R Z D v → hold n ≡ hold (bare-visits R p b)
     -- one exactly if it is settled without a move or the table as found decides it
-    pub one : (capped n ≡ 1) ↔ Short p b x
+    pub one : (hold n ≡ 1) ↔ Short p b x
 
   abbrev pub Visits-thrifty : Type 0
-  Visits-thrifty = (p : P) (b : ℕ) (x : X) (a : Bool) (s : S) (y : X) (n : ℕ) → All-true R Z D x → (v : Visit R Z D p b x a s y n) → Thrifty p b x a s y n v
+  Visits-thrifty = (p : P) (b : ℕ) (x : X) (a : Bool) (s : S) (y : X) (n : ℕ) → All-true R Z D x → (v : Visit R Z D p b x a s y n) → Thrifty (λ n. n) p b x a s y n v
 
   -- Over a table that holds what it was offered last, the same visit made again straight after is one visit.
   abbrev pub Visits-repeat : Type 0
@@ -97,10 +97,10 @@ module _ {P S X : Type 0} (R : Rules P) (Z : Sets P S) (D : Memory P S X) where
     chooses : {p : P} {cells : ℕ} {r : BestMove} → Accepted R (Best p cells) → r .worth ≡ worth R p → Is-move R p (r .number) → Right (Best p cells) (Chosen r)
     wipes : Right Wipe Wiped
 
-  -- What is promised of the visits that a query tells.
+  -- What is promised of the visits that a query tells, which are held at the limit.
   abbrev pub Query-thrifty : {c : Call P} {x : X} {r : Reply} {y : X} → Does R Z D c x r y → Type 0
   Query-thrifty (refused e) = Unit {0}
-  Query-thrifty (queried {p = p} {b = b} {x = x} {y = y} {a = a} {s = s} {n = n} e v) = Thrifty p b x a s y n v
+  Query-thrifty (queried {p = p} {b = b} {x = x} {y = y} {a = a} {s = s} {n = n} e v) = Thrifty capped p b x a s y n v
   Query-thrifty (solved e k) = Unit {0}
   Query-thrifty (chosen e k l) = Unit {0}
   Query-thrifty (wiped w) = Unit {0}

@@ -35,7 +35,7 @@ pub trait Game {
 
     law lawful: { Game-laws rules };
 
-    law apt: { Set-laws rules sets };
+    law sound: { Set-laws rules sets };
 
     // Whether the counting side is to move.
     fn counting(p: &Self::Position) -> bool

@@ -8,7 +8,7 @@ returns g c =
     let R = g .G·Game .rules in
     let Z = g .G·Game .sets in
     let L = g .G·Game·met .lawful in
-    let K = g .G·Game·met .apt in
+    let K = g .G·Game·met .sound in
     let D = g .T·Table .memory (g .G·Game .sets) in
     let E = g .T·Table·met .lawful (g .G·Game .sets) in
     record {
