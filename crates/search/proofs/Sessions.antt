@@ -15,7 +15,7 @@ use Rattle.search.specs.declared.call.Reply.the-variants.{Refused, Answered, S
 use Rattle.search.specs.Calls.{Calls, Choosing, Does, Solving, aim, chosen, done, first-no, go-on, later-one, next, number, past-top, queried, refusal, refused, solved, this-one, wiped}
 use Rattle.search.specs.Games.{Game-laws, Legal, Rules}
 use Rattle.search.specs.Minimax.{Is-move, Says, comes-to, worth}
-use Rattle.search.specs.Promises.{Call-kept, Each-kept, Query-thrifty, Repeat-kept, Repeats-kept, Right, Session-kept, answers, chooses, refuses, solves, wipes}
+use Rattle.search.specs.Promises.{Call-kept, Each-kept, In-turn, Right, Session-kept, answers, chooses, first-two, later-two, refuses, solves, wipes}
 use Rattle.search.specs.Sets.{Set-laws, Sets}
 use Rattle.search.specs.Tables.{All-true, Blank, Memory, Memory-laws}
 use Rattle.search.specs.Visits.{Visit, capped}
@@ -80,7 +80,11 @@ module _ {P S : Type 0} (R : Rules P) (Z : Sets P S) (L : Game-laws R) (K : Set-
     query-made (chosen e k l) p b j a ec er = let z : _≡_ {A = ℕ} 0 1 = cc in absurd (omega arith)
     query-made (wiped w) p b k a ec er = let z : _≡_ {A = ℕ} 0 1 = cc in absurd (omega arith)
 
-    repeat-kept : {c : Call P} {x : X} {r : Reply} {y : X} {c′ : Call P} {r′ : Reply} {z : X} → Does R Z D c x r y → Does R Z D c′ y r′ z → D .retains x → All-true R Z D x → Repeat-kept R Z D c r c′ r′
+    -- Of two queries alike, one straight after the other, the second takes one visit.
+    abbrev Repeat : Call P → Reply → Call P → Reply → Type 0
+    Repeat c r c′ r′ = (p : P) (b k k′ : ℕ) (a a′ : Answer) → c ≡ Query p b k → r ≡ Answered a → c′ ≡ Query p b k′ → r′ ≡ Answered a′ → a′ .visits ≡ 1
+
+    repeat-kept : {c : Call P} {x : X} {r : Reply} {y : X} {c′ : Call P} {r′ : Reply} {z : X} → Does R Z D c x r y → Does R Z D c′ y r′ z → D .retains x → All-true R Z D x → Repeat c r c′ r′
     repeat-kept d d′ h t = λ p b k k′ a a′ ec er ec′ er′.
         let v = query-made d p b k a ec er in
         let w = query-made d′ p b k′ a′ ec′ er′ in
@@ -106,13 +110,12 @@ module _ {P S : Type 0} (R : Rules P) (Z : Sets P S) (L : Game-laws R) (K : Set-
     each-kept done t = tt
     each-kept (next d k) t = let o = call-kept d t in (o, each-kept k (o .true-after))
 
-    repeats-kept : {x : X} {cs : List (Call P)} {rs : List Reply} {y : X} → (k : Calls R Z D x cs rs y) → D .retains x → All-true R Z D x → Repeats-kept R Z D cs rs
-    repeats-kept done h t = tt
-    repeats-kept (next d done) h t = tt
-    repeats-kept (next d (next d′ k)) h t = (repeat-kept d d′ h t, repeats-kept (next d′ k) (call-retains d h) (call-kept d t .true-after))
+    repeats-kept : {cs : List (Call P)} {rs : List Reply} {c : Call P} {r : Reply} {c′ : Call P} {r′ : Reply} → In-turn cs rs c r c′ r′ → {x y : X} → Calls R Z D x cs rs y → D .retains x → All-true R Z D x → Repeat c r c′ r′
+    repeats-kept first-two (next d (next d′ k)) h t = repeat-kept d d′ h t
+    repeats-kept (later-two i) (next d k) h t = repeats-kept i k (call-retains d h) (call-kept d t .true-after)
 
     pub session-kept : (x y z : X) (cs : List (Call P)) (rs : List Reply) → D .wipes x y → (k : Calls R Z D y cs rs z) → Session-kept R Z D x y z cs rs k
     session-kept x y z cs rs w k =
         let blank = E .wipe-clears x y w in
         let t : All-true R Z D y = λ e h. absurd (blank e h) in
-        record { opened = blank; each = each-kept k t; repeats = λ h. repeats-kept k (E .retain-wipes x y h w) t }
+        record { opened = blank; each = each-kept k t; repeats = λ h p b c c′ a a′ i. repeats-kept i k (E .retain-wipes x y h w) t p b c c′ a a′ refl refl refl refl }

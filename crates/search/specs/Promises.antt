@@ -1,6 +1,6 @@
 -- What is promised of minimax, of every visit and of every list of calls.
 use mathlib.Core.Bool.{Bool, true, false}
-use mathlib.Core.List.{List, [], _∷_}
+use mathlib.Core.List.{List, _∷_}
 use mathlib.Core.Logic.{_⊎_, _↔_}
 use mathlib.Core.Path.{_≡_}
 use Prim.Native.Nat.{ℕ, _≤_}
@@ -37,6 +37,11 @@ pub record Bare-right {P S : Type 0} (R : Rules P) (Z : Sets P S) : Type 0 where
   pub visit : (p : P) (b : ℕ) → Bare R Z p b (bare R p b .0) (bare-visits R p b)
   pub only : (p : P) (b : ℕ) (a : Bool) (n : ℕ) → Bare R Z p b a n → (a ≡ bare R p b .0) × (n ≡ bare-visits R p b)
 
+-- In-turn cs rs c r c′ r′: somewhere among the calls cs with the replies rs, c is replied to by r and c′, straight after it, by r′.
+pub data In-turn {P : Type 0} : List (Call P) → List Reply → Call P → Reply → Call P → Reply → Type 0 where
+  first-two : {cs : List (Call P)} {rs : List Reply} {c : Call P} {r : Reply} {c′ : Call P} {r′ : Reply} → In-turn (c ∷ c′ ∷ cs) (r ∷ r′ ∷ rs) c r c′ r′
+  later-two : {cs : List (Call P)} {rs : List Reply} {c : Call P} {r : Reply} {c′ : Call P} {r′ : Reply} {d : Call P} {u : Reply} → In-turn cs rs c r c′ r′ → In-turn (d ∷ cs) (u ∷ rs) c r c′ r′
+
 module _ {P S X : Type 0} (R : Rules P) (Z : Sets P S) (D : Memory P S X) where
   -- What a visit of p at b that answers a with the set s and leaves the table y tells.
   pub record Sound (p : P) (b : ℕ) (a : Bool) (s : S) (y : X) : Type 0 where
@@ -66,6 +71,7 @@ module _ {P S X : Type 0} (R : Rules P) (Z : Sets P S) (D : Memory P S X) where
     -- one exactly if it is settled without a move or the table as found decides it
     pub one : (hold n ≡ 1) ↔ Short p b x
 
+  -- Every visit over a table of true bounds is thrifty.
   abbrev pub Visits-thrifty : Type 0
   Visits-thrifty = (p : P) (b : ℕ) (x : X) (a : Bool) (s : S) (y : X) (n : ℕ) → All-true R Z D x → (v : Visit R Z D p b x a s y n) → Thrifty (λ n. n) p b x a s y n v
 
@@ -114,29 +120,19 @@ module _ {P S X : Type 0} (R : Rules P) (Z : Sets P S) (D : Memory P S X) where
     pub blank-after : c ≡ Wipe → Blank D y
     pub thrifty : Query-thrifty d
 
-  -- Of two calls in turn, c replied to by r and c′ by r′: an accepted query that is accepted again takes one visit.
-  abbrev pub Repeat-kept : Call P → Reply → Call P → Reply → Type 0
-  Repeat-kept c r c′ r′ = (p : P) (b k k′ : ℕ) (a a′ : Answer) → c ≡ Query p b k → r ≡ Answered a → c′ ≡ Query p b k′ → r′ ≡ Answered a′ → a′ .visits ≡ 1
-
   -- What is promised of each call of a list.
   abbrev pub Each-kept : {x y : X} {cs : List (Call P)} {rs : List Reply} → Calls R Z D x cs rs y → Type 0
   Each-kept done = Unit {0}
   Each-kept (next {c = c} {x = x} {y = y} {r = r} d k) = Call-kept c x r y d × Each-kept k
 
-  -- What is promised of each call of a list and the one straight after it.
-  abbrev pub Repeats-kept : List (Call P) → List Reply → Type 0
-  Repeats-kept (c ∷ (c′ ∷ cs)) (r ∷ (r′ ∷ rs)) = Repeat-kept c r c′ r′ × Repeats-kept (c′ ∷ cs) (r′ ∷ rs)
-  Repeats-kept (c ∷ (c′ ∷ cs)) (r ∷ []) = Unit {0}
-  Repeats-kept (c ∷ (c′ ∷ cs)) [] = Unit {0}
-  Repeats-kept (c ∷ []) rs = Unit {0}
-  Repeats-kept [] rs = Unit {0}
-
   -- What is promised of a solver opened over the table x, which is wiped to y, and then given the calls cs.
   pub record Session-kept (x y z : X) (cs : List (Call P)) (rs : List Reply) (k : Calls R Z D y cs rs z) : Type 0 where
+    -- opening leaves nothing held
     pub opened : Blank D y
     pub each : Each-kept k
-    -- if the table always holds what it was offered last
-    pub repeats : D .retains x → Repeats-kept cs rs
+    -- over a table that holds what it was offered last, an accepted query that is accepted again straight after takes one visit
+    pub repeats : D .retains x → (p : P) (b cells cells′ : ℕ) (a a′ : Answer) → In-turn cs rs (Query p b cells) (Answered a) (Query p b cells′) (Answered a′) → a′ .visits ≡ 1
 
+  -- Every list of calls keeps what is promised.
   abbrev pub Sessions-kept : Type 0
   Sessions-kept = (x y z : X) (cs : List (Call P)) (rs : List Reply) → D .wipes x y → (k : Calls R Z D y cs rs z) → Session-kept x y z cs rs k

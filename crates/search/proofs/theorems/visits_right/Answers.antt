@@ -1,7 +1,7 @@
 use Rattle.search.proofs.Ending.{visit-ends}
 use Rattle.search.proofs.Soundness.{visit-sound}
 use Rattle.search.proofs.Thrift.{visit-again, visit-thrifty}
-use Rattle.search.proofs.promise.visits_right.Needs as need
+use Rattle.search.proofs.theorems.visits_right.Needs as need
 
 pub returns : need.returns
 returns g c =

@@ -1,5 +1,5 @@
 use Rattle.search.proofs.Sessions.{session-kept}
-use Rattle.search.proofs.promise.sessions_right.Needs as need
+use Rattle.search.proofs.theorems.sessions_right.Needs as need
 
 pub returns : need.returns
 returns g c =

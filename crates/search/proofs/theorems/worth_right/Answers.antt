@@ -1,5 +1,5 @@
 use Rattle.search.proofs.Worth.{has-move, one-move, worth-only, worth-rule, worth-top}
-use Rattle.search.proofs.promise.worth_right.Needs as need
+use Rattle.search.proofs.theorems.worth_right.Needs as need
 
 pub returns : need.returns
 returns g c =
