@@ -2,5 +2,5 @@ pub mod Worth
 pub mod Soundness
 pub mod BareSearch
 pub mod Thrift
-pub mod Ending
 pub mod Sessions
+pub mod Ending

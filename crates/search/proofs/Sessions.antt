@@ -2,18 +2,22 @@
 use lib.Dec.{T, eqb, ltb}
 use mathlib.Core.Bool.{Bool, true, false, not, cond}
 use mathlib.Core.List.{List, [], _∷_}
+use mathlib.Core.Logic.{_⊎_, inl, inr}
 use mathlib.Core.Path.{_≡_, refl, sym, ap, _∙_, subst, subst₂}
 use native.Mathlib.Decide.{decLt}
 use native.Mathlib.Omega.{arith}
-use Prim.Native.Nat.{ℕ, suc, _+_, _-_, _≤_, _<_}
+use Prim.Native.Nat.{ℕ, zero, suc, _+_, _-_, _≤_, _<_}
+use Rattle.std.specs.declared.option.Option.{Option}
 use Rattle.std.specs.declared.option.Option.the-variants.{None, Some}
 use Rattle.search.specs.declared.call.Answer.{Answer}
 use Rattle.search.specs.declared.call.Call.{Call}
 use Rattle.search.specs.declared.call.Call.the-variants.{Query, Solve, Best, Wipe}
+use Rattle.search.specs.declared.call.CallError.{CallError}
+use Rattle.search.specs.declared.call.CallError.the-variants.{ShortTrail, GameOver}
 use Rattle.search.specs.declared.call.Reply.{Reply}
 use Rattle.search.specs.declared.call.Reply.the-variants.{Refused, Answered, Solved, Chosen, Wiped}
-use Rattle.search.specs.Calls.{Calls, Choosing, Does, Solving, aim, chosen, done, first-no, go-on, later-one, next, number, past-top, queried, refusal, refused, solved, this-one, wiped}
-use Rattle.search.specs.Games.{Game-laws, Legal, Rules}
+use Rattle.search.specs.Calls.{Accepted, Calls, Choosing, Does, Solving, aim, chosen, done, first-no, go-on, later-one, next, number, past-top, queried, refusal, refused, solved, this-one, wiped}
+use Rattle.search.specs.Games.{Game-laws, Legal, Live, Rules}
 use Rattle.search.specs.Minimax.{Is-move, Says, comes-to, worth}
 use Rattle.search.specs.Promises.{Call-kept, Each-kept, In-turn, Right, Session-kept, answers, chooses, first-two, later-two, refuses, solves, wipes}
 use Rattle.search.specs.Sets.{Set-laws, Sets}
@@ -22,6 +26,31 @@ use Rattle.search.specs.Visits.{Visit, capped}
 use Rattle.search.proofs.Soundness.{some-none, visit-sound}
 use Rattle.search.proofs.Thrift.{told-thrifty, visit-again, visit-retains}
 use Rattle.search.proofs.Worth.{worth-least, worth-most, worth-top}
+
+-- A call is accepted, or refused with one of the numbers.
+module _ {P : Type 0} (R : Rules P) where
+  abbrev told : Bool → Bool → Option ℕ
+  told u v = cond u (Some 1) (cond v (Some 10) None)
+
+  one-of : (u v : Bool) → (told u v ≡ None) ⊎ ((e : CallError) × (told u v ≡ Some (number e)))
+  one-of true v = inr (ShortTrail, refl)
+  one-of false true = inr (GameOver, refl)
+  one-of false false = inl refl
+
+  pub refused-or-not : (c : Call P) → Accepted R c ⊎ ((e : CallError) × (refusal R c ≡ Some (number e)))
+  refused-or-not (Query p b cells) = one-of (ltb cells (R .height p)) false
+  refused-or-not (Solve p cells) = one-of (ltb cells (R .height p)) false
+  refused-or-not (Best p cells) = one-of (ltb cells (R .height p)) (eqb (R .moves p) 0)
+  refused-or-not Wipe = inl refl
+
+  -- An accepted best has a position that is not ended.
+  pub best-live : (p : P) (cells : ℕ) → Accepted R (Best p cells) → Live R p
+  best-live p cells = go (ltb cells (R .height p)) (R .moves p)
+    where
+      go : (u : Bool) (n : ℕ) → told u (eqb n 0) ≡ None → 0 < n
+      go true n e = absurd (some-none e)
+      go false zero e = absurd (some-none e)
+      go false (suc n) e = omega arith
 
 module _ {P S : Type 0} (R : Rules P) (Z : Sets P S) (L : Game-laws R) (K : Set-laws R Z) where
   -- A move reaches the worth exactly if the query at its aim answers as the side to move wants.
@@ -33,8 +62,15 @@ module _ {P S : Type 0} (R : Rules P) (Z : Sets P S) (L : Game-laws R) (K : Set-
   aim-misses true p i s e = omega arith
   aim-misses false p i s e = omega arith
 
+  -- One move more does not reach the worth.
+  pub missed-more : (p : P) (w i : ℕ) → w ≡ worth R p → ((j : ℕ) → j < i → comes-to R p j ≡ worth R p → ⊥) → Says (not (R .counting p)) (aim R p w i) (worth R (R .after p i)) → (j : ℕ) → j < suc i → comes-to R p j ≡ worth R p → ⊥
+  missed-more p w i e f s j l q = elim (decLt j i) [
+      yes m ↦ f j m q
+    | no m ↦ (let d : j ≡ i = omega arith in aim-misses (R .counting p) p i (subst (λ w. Says (not (R .counting p)) (aim R p w i) (worth R (R .after p i))) e s) (subst (λ j. comes-to R p j ≡ worth R p) d q))
+    ]
+
   module _ {X : Type 0} (D : Memory P S X) (E : Memory-laws Z D) where
-    solving : {p : P} {b : ℕ} {x : X} {w : ℕ} {y : X} {n : ℕ} → Solving R Z D p b x w y n → 0 < b → b - 1 ≤ worth R p → All-true R Z D x → (w ≡ worth R p) × All-true R Z D y
+    pub solving : {p : P} {b : ℕ} {x : X} {w : ℕ} {y : X} {n : ℕ} → Solving R Z D p b x w y n → 0 < b → b - 1 ≤ worth R p → All-true R Z D x → (w ≡ worth R p) × All-true R Z D y
     solving (past-top {p = p} h) hb l t = (omega (arith, worth-top R L p), t)
     solving (first-no {p = p} h v) hb l t = let o = visit-sound R Z L K D E v t in (omega (arith, o .answer), o .kept)
     solving (go-on {p = p} h v k) hb l t = let o = visit-sound R Z L K D E v t in solving k (omega arith) (omega (arith, o .answer)) (o .kept)
@@ -45,17 +81,12 @@ module _ {P S : Type 0} (R : Rules P) (Z : Sets P S) (L : Game-laws R) (K : Set-
         (record { legal = h; reaches = aim-reaches (R .counting p) p i refl h (subst (λ w. Says (R .counting p) (aim R p w i) (worth R (R .after p i))) e (o .answer)); first = f }, o .kept)
     choosing (later-one {p = p} {w = w} {i = i} h v k) e f t =
         let o = visit-sound R Z L K D E v t in
-        choosing k e
-        (λ j l q. elim (decLt j i) [
-            yes m ↦ f j m q
-          | no m ↦ (let d : j ≡ i = omega arith in aim-misses (R .counting p) p i (subst (λ w. Says (not (R .counting p)) (aim R p w i) (worth R (R .after p i))) e (o .answer)) (subst (λ j. comes-to R p j ≡ worth R p) d q))
-          ])
-        (o .kept)
+        choosing k e (missed-more p w i e f (o .answer)) (o .kept)
 
     no-wipe : {c : Call P} {y : X} → (c ≡ Wipe → _≡_ {A = ℕ} 0 1) → c ≡ Wipe → Blank D y
     no-wipe f e = absurd (let z = f e in omega arith)
 
-    call-kept : {c : Call P} {x : X} {r : Reply} {y : X} → (d : Does R Z D c x r y) → All-true R Z D x → Call-kept R Z D c x r y d
+    pub call-kept : {c : Call P} {x : X} {r : Reply} {y : X} → (d : Does R Z D c x r y) → All-true R Z D x → Call-kept R Z D c x r y d
     call-kept (refused {c = c} {x = x} {e = f} e) t = record { right = refuses e; true-after = t; blank-after = λ q. absurd (some-none (sym (subst (λ c. refusal R c ≡ Some (number f)) q e))); thrifty = tt }
     call-kept (queried e v) t = let o = visit-sound R Z L K D E v t in record { right = answers e (o .answer); true-after = o .kept; blank-after = no-wipe (λ q. cc); thrifty = told-thrifty R Z L K D E v t }
     call-kept (solved e k) t = let o = solving k (omega arith) (omega arith) t in record { right = solves e (o .0); true-after = o .1; blank-after = no-wipe (λ q. cc); thrifty = tt }

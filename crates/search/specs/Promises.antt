@@ -79,17 +79,9 @@ module _ {P S X : Type 0} (R : Rules P) (Z : Sets P S) (D : Memory P S X) where
   abbrev pub Visits-repeat : Type 0
   Visits-repeat = (p : P) (b : ℕ) (x : X) (a : Bool) (s : S) (y : X) (n : ℕ) (c : Bool) (t : S) (z : X) (m : ℕ) → D .retains x → All-true R Z D x → Visit R Z D p b x a s y n → Visit R Z D p b y c t z m → m ≡ 1
 
-  -- A visit of p at b that finds the table x.
-  pub record Visited (p : P) (b : ℕ) (x : X) : Type 0 where
-    pub answer : Bool
-    pub set : S
-    pub table : X
-    pub count : ℕ
-    pub visit : Visit R Z D p b x answer set table count
-
-  -- Where look and keep always come to something, every position can be visited at every bound, and the visit ends.
+  -- Over a table that refuses nothing, every position can be visited at every bound: the visit ends, with an answer.
   abbrev pub Visits-end : Type 0
-  Visits-end = Total D → (p : P) (b : ℕ) (x : X) → Visited p b x
+  Visits-end = Total D → (p : P) (b : ℕ) (x : X) → (a : Bool) × (s : S) × (y : X) × (n : ℕ) × Visit R Z D p b x a s y n
 
   -- The reply is the right one to the call.
   pub data Right : Call P → Reply → Type 0 where
@@ -136,3 +128,7 @@ module _ {P S X : Type 0} (R : Rules P) (Z : Sets P S) (D : Memory P S X) where
   -- Every list of calls keeps what is promised.
   abbrev pub Sessions-kept : Type 0
   Sessions-kept = (x y z : X) (cs : List (Call P)) (rs : List Reply) → D .wipes x y → (k : Calls R Z D y cs rs z) → Session-kept x y z cs rs k
+
+  -- Over a table that refuses nothing, every list of calls can be made: each call ends, with a reply.
+  abbrev pub Sessions-end : Type 0
+  Sessions-end = Total D → (x : X) (cs : List (Call P)) → (y : X) × (rs : List Reply) × (z : X) × D .wipes x y × Calls R Z D y cs rs z

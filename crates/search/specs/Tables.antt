@@ -56,7 +56,8 @@ pub record Memory-laws {P S X : Type 0} (Z : Sets P S) (D : Memory P S X) : Type
   pub retain-keeps : (x : X) (e : Entry S) (y : X) → D .retains x → D .keeps x e y → D .retains y
   pub retain-wipes : (x y : X) → D .retains x → D .wipes x y → D .retains y
 
--- Look and keep always come to something: a table refuses nothing.
+-- A table refuses nothing: look, keep and wipe always come to something.
 pub record Total {P S X : Type 0} (D : Memory P S X) : Type 0 where
   pub looked : (x : X) (p : P) (b : ℕ) → (o : Option (Entry S)) × D .looks x p b o
   pub kept : (x : X) (e : Entry S) → (y : X) × D .keeps x e y
+  pub wiped : (x : X) → (y : X) × D .wipes x y

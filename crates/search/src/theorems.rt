@@ -1,6 +1,6 @@
 // The theorems, for every lawful game and table. Each function does nothing: its contract is the theorem, so that the
 // check asks for the proof.
-ghost use Rattle.search.specs.Promises.{Bare-right, Sessions-kept, Visits-end, Visits-repeat, Visits-sound, Visits-thrifty, Worth-right};
+ghost use Rattle.search.specs.Promises.{Bare-right, Sessions-end, Sessions-kept, Visits-end, Visits-repeat, Visits-sound, Visits-thrifty, Worth-right};
 use crate::game::Game;
 use crate::table::Table;
 
@@ -25,8 +25,9 @@ pub fn visits_right<G: Game, T: Table<G>>()
 {
 }
 
-// What every list of calls keeps from opening on.
+// What every list of calls keeps from opening on, and that it can be made.
 pub fn sessions_right<G: Game, T: Table<G>>()
-    ensures { λ _. ⌜ Sessions-kept (G·Game .rules) (G·Game .sets) (T·Table .memory (G·Game .sets)) ⌝ }
+    ensures kept { λ _. ⌜ Sessions-kept (G·Game .rules) (G·Game .sets) (T·Table .memory (G·Game .sets)) ⌝ }
+    ensures end { λ _. ⌜ Sessions-end (G·Game .rules) (G·Game .sets) (T·Table .memory (G·Game .sets)) ⌝ }
 {
 }

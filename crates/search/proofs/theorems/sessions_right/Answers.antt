@@ -1,7 +1,16 @@
+use Rattle.search.proofs.Ending.{session-ends}
 use Rattle.search.proofs.Sessions.{session-kept}
 use Rattle.search.proofs.theorems.sessions_right.Needs as need
 
 pub returns : need.returns
 returns g c =
-    session-kept (g .G·Game .rules) (g .G·Game .sets) (g .G·Game·met .lawful) (g .G·Game·met .sound)
-    (g .T·Table .memory (g .G·Game .sets)) (g .T·Table·met .lawful (g .G·Game .sets))
+    let R = g .G·Game .rules in
+    let Z = g .G·Game .sets in
+    let L = g .G·Game·met .lawful in
+    let K = g .G·Game·met .sound in
+    let D = g .T·Table .memory (g .G·Game .sets) in
+    let E = g .T·Table·met .lawful (g .G·Game .sets) in
+    record {
+      kept = session-kept R Z L K D E;
+      end = λ f. session-ends R Z L D f K E
+    }
