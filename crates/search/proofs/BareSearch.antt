@@ -51,6 +51,7 @@ then-says Q c r later f g = go (Bool·beq (r .0) c) refl
   where
     pick : Bool → Count
     pick v = cond v (c, r .1) (later .0, r .1 + later .1)
+
     go : (v : Bool) → Bool·beq (r .0) c ≡ v → Q (pick v .0)
     go true e = f (beq-true (r .0) c e)
     go false e = g (beq-false (r .0) c e)
@@ -69,14 +70,14 @@ module _ {P : Type 0} (R : Rules P) (L : Game-laws R) where
   bare-agree (suc k) (suc l) p b hk hl =
       ap (with-visit (settled R p b))
       (moves-ext (bare-within R k) (bare-within R l) p b (R .moves p) 0 (omega arith)
-       (λ j c h. let r = L .falls p j h in bare-agree k l (R .after p j) c (omega arith) (omega arith)))
+      (λ j c h. let r = L .falls p j h in bare-agree k l (R .after p j) c (omega arith) (omega arith)))
 
   bare-is : (p : P) (b : ℕ) → bare R p b ≡ with-visit (settled R p b) (bare-moves R (bare R) p b (R .moves p) 0)
   unfolding bare bare-within
   bare-is p b =
       ap (with-visit (settled R p b))
       (moves-ext (bare-within R (R .height p)) (bare R) p b (R .moves p) 0 (omega arith)
-       (λ j c h. let r = L .falls p j h in bare-agree (R .height p) (suc (R .height (R .after p j))) (R .after p j) c (omega arith) (omega arith)))
+      (λ j c h. let r = L .falls p j h in bare-agree (R .height p) (suc (R .height (R .after p j))) (R .after p j) c (omega arith) (omega arith)))
 
   -- The visits that the bare search makes from move i on, with l moves left.
   pub left : P → ℕ → ℕ → ℕ → ℕ
@@ -112,9 +113,9 @@ module _ {P : Type 0} (R : Rules P) (L : Game-laws R) where
       where
         at : Says (not (R .counting p)) (rest-of R p b i) (worth R (R .after p i)) → (j : ℕ) → j < suc i → Says (not (R .counting p)) (rest-of R p b j) (worth R (R .after p j))
         at s j k = elim (decLt j i) [
-            yes m ↦ t j m
+          | yes m ↦ t j m
           | no m ↦ (let d : i ≡ j = omega arith in subst (λ j. Says (not (R .counting p)) (rest-of R p b j) (worth R (R .after p j))) d s)
-          ]
+        ]
 
     with-visit-says : (o : Option Bool) (r : Count) (p : P) (b : ℕ) → settled R p b ≡ o → (settled R p b ≡ None → Says (r .0) b (worth R p)) → Says (with-visit o r .0) b (worth R p)
     with-visit-says (Some a) r p b e f = settled-says R Z L K p b a e p (K .broad-own p)
@@ -126,9 +127,9 @@ module _ {P : Type 0} (R : Rules P) (L : Game-laws R) where
     within-says (suc k) p b h =
         with-visit-says (settled R p b) (bare-moves R (bare-within R k) p b (R .moves p) 0) p b refl
         (λ e. let u = unsettled R p b e in
-          bare-moves-say (bare-within R k) p b (R .moves p) 0 (u .asks) (u .live) (omega arith)
-          (λ j c l. let r = L .falls p j l in within-says k (R .after p j) c (omega arith))
-          (λ j l. absurd (omega arith)))
+        bare-moves-say (bare-within R k) p b (R .moves p) 0 (u .asks) (u .live) (omega arith)
+        (λ j c l. let r = L .falls p j l in within-says k (R .after p j) c (omega arith))
+        (λ j l. absurd (omega arith)))
 
     -- The bare search answers by minimax.
     pub bare-says : (p : P) (b : ℕ) → Says (bare R p b .0) b (worth R p)

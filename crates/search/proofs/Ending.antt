@@ -41,10 +41,13 @@ module _ {P S : Type 0} (R : Rules P) (Z : Sets P S) (L : Game-laws R) {X : Type
     where
       legal : Legal R p i
       legal = omega arith
+
       v : Made (R .after p i) (rest-of R p b i) y
       v = f i (rest-of R p b i) legal y
+
       child : (a : Bool) → v .0 ≡ a → Visit R Z D (R .after p i) (rest-of R p b i) y a (v .1) (v .2) (v .3)
       child a d = subst (λ a. Visit R Z D (R .after p i) (rest-of R p b i) y a (v .1) (v .2) (v .3)) d (v .4)
+
       go : (c : Bool) → Bool·beq (v .0) (R .counting p) ≡ c → (Tried R Z D p b (suc i) x (joined R Z p i acc (Z .pull p i (v .1))) (v .2) (n + v .3) → Made p b x) → Made p b x
       go true d more =
           let k = F .kept (v .2) (offer (Z .pull p i (v .1)) (R .counting p) b) in
@@ -71,6 +74,7 @@ module _ {P S : Type 0} (R : Rules P) (Z : Sets P S) (L : Game-laws R) {X : Type
     where
       v : Made p b x
       v = visit-ends p b x
+
       go : (a : Bool) → Visit R Z D p b x a (v .1) (v .2) (v .3) → ((w : ℕ) × (y : X) × (n : ℕ) × Solving R Z D p (suc b) (v .2) w y n) → (w : ℕ) × (y : X) × (n : ℕ) × Solving R Z D p b x w y n
       go true u r = (_, _, _, go-on (omega arith) u (r .3))
       go false u r = (_, _, _, first-no (omega arith) u)
@@ -84,10 +88,13 @@ module _ {P S : Type 0} (R : Rules P) (Z : Sets P S) (L : Game-laws R) {X : Type
       where
         legal : Legal R p i
         legal = omega arith
+
         v : Made (R .after p i) (aim R p w i) x
         v = visit-ends (R .after p i) (aim R p w i) x
+
         child : (a : Bool) → v .0 ≡ a → Visit R Z D (R .after p i) (aim R p w i) x a (v .1) (v .2) (v .3)
         child a d = subst (λ a. Visit R Z D (R .after p i) (aim R p w i) x a (v .1) (v .2) (v .3)) d (v .4)
+
         go : (c : Bool) → Bool·beq (v .0) (R .counting p) ≡ c → (((j : ℕ) → j < suc i → comes-to R p j ≡ worth R p → ⊥) → All-true R Z D (v .2) → (m : ℕ) × (y : X) × (n : ℕ) × Choosing R Z D p w (suc i) (v .2) m y n) → (m : ℕ) × (y : X) × (n : ℕ) × Choosing R Z D p w i x m y n
         go true d more = (_, _, _, this-one legal (child (R .counting p) (beq-true (v .0) (R .counting p) d)))
         go false d more =
@@ -130,7 +137,7 @@ nothing-laws Z = record {
   wipe-clears = λ x y w e h. h;
   retain-holds = λ x e y r k. r;
   retain-keeps = λ x e y r k. r;
-  retain-wipes = λ x y r w. r
+  retain-wipes = λ x y r w. r;
 }
 
 nothing-total : {P S : Type 0} → Total {P = P} {S = S} nothing-held
@@ -152,9 +159,10 @@ module _ {P S : Type 0} (R : Rules P) (Z : Sets P S) (L : Game-laws R) (K : Set-
     nothing-aids-moves (one-more r h v) = (nothing-aids-moves r, nothing-aids v)
 
   bare-only : (p : P) (b : ℕ) (a : Bool) (n : ℕ) → Bare R Z p b a n → (a ≡ bare R p b .0) × (n ≡ bare-visits R p b)
-  bare-only p b a n v =
-      ( says-one _ _ _ _ (visit-sound R Z L K nothing-held (nothing-laws Z) (v .1) nothing-true .answer) (bare-says R L Z K p b)
-      , visit-equal R Z L K nothing-held (nothing-laws Z) (v .1) nothing-true (nothing-aids (v .1)))
+  bare-only p b a n v = (
+    says-one _ _ _ _ (visit-sound R Z L K nothing-held (nothing-laws Z) (v .1) nothing-true .answer) (bare-says R L Z K p b),
+    visit-equal R Z L K nothing-held (nothing-laws Z) (v .1) nothing-true (nothing-aids (v .1)),
+  )
 
   bare-visit : (p : P) (b : ℕ) → Bare R Z p b (bare R p b .0) (bare-visits R p b)
   bare-visit p b =

@@ -65,9 +65,9 @@ module _ {P S : Type 0} (R : Rules P) (Z : Sets P S) (L : Game-laws R) (K : Set-
   -- One move more does not reach the worth.
   pub missed-more : (p : P) (w i : ℕ) → w ≡ worth R p → ((j : ℕ) → j < i → comes-to R p j ≡ worth R p → ⊥) → Says (not (R .counting p)) (aim R p w i) (worth R (R .after p i)) → (j : ℕ) → j < suc i → comes-to R p j ≡ worth R p → ⊥
   missed-more p w i e f s j l q = elim (decLt j i) [
-      yes m ↦ f j m q
+    | yes m ↦ f j m q
     | no m ↦ (let d : j ≡ i = omega arith in aim-misses (R .counting p) p i (subst (λ w. Says (not (R .counting p)) (aim R p w i) (worth R (R .after p i))) e s) (subst (λ j. comes-to R p j ≡ worth R p) d q))
-    ]
+  ]
 
   module _ {X : Type 0} (D : Memory P S X) (E : Memory-laws Z D) where
     pub solving : {p : P} {b : ℕ} {x : X} {w : ℕ} {y : X} {n : ℕ} → Solving R Z D p b x w y n → 0 < b → b - 1 ≤ worth R p → All-true R Z D x → (w ≡ worth R p) × All-true R Z D y

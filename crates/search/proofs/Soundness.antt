@@ -67,7 +67,7 @@ unsettled R p b = go (eqb b 0) (ltb (R .top p) b) (eqb (R .moves p) 0) refl refl
     go false false false eu ev ew e = record {
       asks = not-zero b (subst (λ c. T (not c)) (sym eu) tt);
       within = nltb→le (R .top p) b (subst (λ c. T (not c)) (sym ev) tt);
-      live = not-zero (R .moves p) (subst (λ c. T (not c)) (sym ew) tt)
+      live = not-zero (R .moves p) (subst (λ c. T (not c)) (sym ew) tt);
     }
 
 -- The sets of the moves tried so far, and one more.
@@ -93,9 +93,9 @@ module _ {S : Type 0} where
 
   put-all : (U : ℕ → S) (i : ℕ) (s : S) (k : ℕ) → k < suc i → (Q : ℕ → S → Type 0) → (k < i → Q k (U k)) → Q i s → Q k (put U i s k)
   put-all U i s k l Q below here = elim (decLt k i) [
-      yes m ↦ subst (Q k) (sym (put-below U i s k m)) (below m)
+    | yes m ↦ subst (Q k) (sym (put-below U i s k m)) (below m)
     | no m ↦ (let e : i ≡ k = omega arith in subst (λ n. Q n (put U i s n)) e (subst (Q i) (sym (put-here U i s)) here))
-    ]
+  ]
 
 module _ {P S : Type 0} (R : Rules P) (Z : Sets P S) (L : Game-laws R) (K : Set-laws R Z) where
   -- Members of the broad set have the same answer where no move is needed.
@@ -161,7 +161,7 @@ module _ {P S : Type 0} (R : Rules P) (Z : Sets P S) (L : Game-laws R) (K : Set-
         through = U;
         is = ap₂ (λ a v. joined R Z p i a (Z .pull p i v)) (t .is ∙ cover-ext p i (t .through) U (λ k l. sym (put-below (t .through) i s k l))) (sym (put-here (t .through) i s));
         own = λ k l. put-all (t .through) i s k l (λ n v. In Z v (R .after p n)) (t .own k) h;
-        alike = λ k l. put-all (t .through) i s k l (λ n v. (q : P) → In Z v q → Says (not (R .counting p)) (rest-of R p b n) (worth R q)) (t .alike k) f
+        alike = λ k l. put-all (t .through) i s k l (λ n v. (q : P) → In Z v q → Says (not (R .counting p)) (rest-of R p b n) (worth R q)) (t .alike k) f;
       }
 
   -- Members of the cover of moves that all fail have the other answer.
@@ -170,7 +170,7 @@ module _ {P S : Type 0} (R : Rules P) (Z : Sets P S) (L : Game-laws R) (K : Set-
       let w = K .cover-all p (t .through) l (t .own) q (subst (λ c. In Z c q) (t .is) m) in
       moves-say (not (R .counting p)) q b (w .1)
       (λ j h. let d = w .2 j h in
-        subst (λ g. Says (not (R .counting p)) (b - g) (worth R (R .after q j))) (sym (d .2 .0)) (t .alike (d .0) (d .1) (R .after q j) (d .2 .1)))
+      subst (λ g. Says (not (R .counting p)) (b - g) (worth R (R .after q j))) (sym (d .2 .0)) (t .alike (d .0) (d .1) (R .after q j) (d .2 .1)))
       (w .0 ∙ twice-not (R .counting p))
 
   module _ {X : Type 0} (D : Memory P S X) (E : Memory-laws Z D) where
@@ -181,9 +181,9 @@ module _ {P S : Type 0} (R : Rules P) (Z : Sets P S) (L : Game-laws R) (K : Set-
       own = i;
       alike = f;
       kept = λ d k. elim (E .keep-adds y (offer s a b) z d w k) [
-          inl o ↦ t d o
+        | inl o ↦ t d o
         | inr o ↦ subst (True R Z) (sym o) (λ q j. says-bounds a b (worth R q) h (f q j))
-        ]
+      ];
     }
 
     mutual

@@ -102,7 +102,7 @@ module _ {P S : Type 0} (R : Rules P) (Z : Sets P S) (L : Game-laws R) (K : Set-
   told-thrifty v t = record {
     most = let h = visit-most v t in omega arith;
     unaided = λ u. ap capped (visit-equal v t u);
-    one = (λ h. one-short v (omega arith), λ h. let e = short-one v h in omega arith)
+    one = (λ h. one-short v (omega arith), λ h. let e = short-one v h in omega arith);
   }
 
   -- What a visit offers decides the same question.
@@ -127,17 +127,23 @@ module _ {P S : Type 0} (R : Rules P) (Z : Sets P S) (L : Game-laws R) (K : Set-
   visited-short (at-once {a = a} e) h t = inl (a, e)
   visited-short (remembered {p = p} {b = b} {x = x} {e = e} u l) h t = inr (e, E .look-some x p b e l)
   visited-short (by-move {p = p} {b = b} {i = i} {z = z} {w = w} {s = s} e l r j v k) h t =
-      inr (offer (Z .pull p i s) (R .counting p) b, record {
-        is-held = E .retain-holds z _ w (visit-retains v (moves-retain r h)) k;
-        has = visit-sound R Z L K D E (by-move e l r j v k) t .own;
-        decides = offer-decides (R .counting p) b (unsettled R p b e .asks)
-      })
+      inr (
+        offer (Z .pull p i s) (R .counting p) b,
+        record {
+          is-held = E .retain-holds z _ w (visit-retains v (moves-retain r h)) k;
+          has = visit-sound R Z L K D E (by-move e l r j v k) t .own;
+          decides = offer-decides (R .counting p) b (unsettled R p b e .asks);
+        },
+      )
   visited-short (by-cover {p = p} {b = b} {y = y} {z = z} {acc = acc} e l r k) h t =
-      inr (offer acc (not (R .counting p)) b, record {
-        is-held = E .retain-holds y _ z (moves-retain r h) k;
-        has = visit-sound R Z L K D E (by-cover e l r k) t .own;
-        decides = offer-decides (not (R .counting p)) b (unsettled R p b e .asks)
-      })
+      inr (
+        offer acc (not (R .counting p)) b,
+        record {
+          is-held = E .retain-holds y _ z (moves-retain r h) k;
+          has = visit-sound R Z L K D E (by-cover e l r k) t .own;
+          decides = offer-decides (not (R .counting p)) b (unsettled R p b e .asks);
+        },
+      )
 
   pub visit-again : {p : P} {b : ℕ} {x : X} {a c : Bool} {s u : S} {y z : X} {n m : ℕ} → Visit R Z D p b x a s y n → Visit R Z D p b y c u z m → D .retains x → All-true R Z D x → m ≡ 1
   visit-again v w h t = short-one w (visited-short v h t)

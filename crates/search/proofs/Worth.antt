@@ -39,8 +39,8 @@ best-some c v zero = (0, omega arith, refl)
 best-some c v (suc n) =
     let r = best-some c v n in
     elim (better-one c (best-to c v n) (v (suc n))) [
-      inl e ↦ (r .0, omega arith, e ∙ r .2)
-    | inr e ↦ (suc n, omega arith, e)
+      | inl e ↦ (r .0, omega arith, e ∙ r .2)
+      | inr e ↦ (suc n, omega arith, e)
     ]
 
 -- The first number at which a test is true.
@@ -53,9 +53,9 @@ first-below f (suc n) i h e = go (f zero) refl (λ l d. first-below (λ k. f (su
     go : (c : Bool) → f zero ≡ c → (i - 1 < n → f (suc (i - 1)) ≡ true → first-to (λ k. f (suc k)) n ≤ i - 1) → cond c zero (suc (first-to (λ k. f (suc k)) n)) ≤ i
     go true t ih = omega arith
     go false t ih = elim (decLt 0 i) [
-        yes k ↦ (let d : suc (i - 1) ≡ i = omega arith in let r = ih (omega arith) (subst (λ j. f j ≡ true) (sym d) e) in omega arith)
+      | yes k ↦ (let d : suc (i - 1) ≡ i = omega arith in let r = ih (omega arith) (subst (λ j. f j ≡ true) (sym d) e) in omega arith)
       | no k ↦ (let d : i ≡ 0 = omega arith in absurd (false≢true (sym t ∙ subst (λ j. f j ≡ true) d e)))
-      ]
+    ]
 
 first-is : (f : ℕ → Bool) (n : ℕ) → first-to f n < n → f (first-to f n) ≡ true
 unfolding first-to
@@ -164,9 +164,9 @@ module _ {P : Type 0} (R : Rules P) (L : Game-laws R) where
   only-within : (k : ℕ) (v w : P → ℕ) → Minimax R v → Minimax R w → (p : P) → R .height p ≤ k → v p ≤ w p
   only-within zero v w V W p h = only-ended v w V W p (flat p h)
   only-within (suc k) v w V W p h = elim (decLt 0 (R .moves p)) [
-      yes l ↦ only-live v w V W p (R .counting p) refl l (λ i m. let r = L .falls p i m in only-within k v w V W (R .after p i) (omega arith))
+    | yes l ↦ only-live v w V W p (R .counting p) refl l (λ i m. let r = L .falls p i m in only-within k v w V W (R .after p i) (omega arith))
     | no l ↦ only-ended v w V W p (omega arith)
-    ]
+  ]
 
   pub worth-only : (w : P → ℕ) → Minimax R w → (p : P) → w p ≡ worth R p
   worth-only w W p =
@@ -180,13 +180,13 @@ module _ {P : Type 0} (R : Rules P) (L : Game-laws R) where
   under-within : (k : ℕ) (p : P) → R .height p ≤ k → worth R p ≤ R .top p
   under-within zero p h = ended-under p (flat p h)
   under-within (suc k) p h = elim (decLt 0 (R .moves p)) [
-      yes l ↦ (
+    | yes l ↦ (
         let r = worth-some p l in
         let low = L .falls p (r .0) (r .1) in
         let ih = under-within k (R .after p (r .0)) (omega arith) in
         omega (arith, L .gain-top p (r .0) (r .1), r .2))
     | no l ↦ ended-under p (omega arith)
-    ]
+  ]
 
   pub worth-top : (p : P) → worth R p ≤ R .top p
   worth-top p = under-within (R .height p) p (omega arith)
@@ -208,13 +208,14 @@ module _ {P : Type 0} (R : Rules P) (L : Game-laws R) where
 
   pub has-move : (p : P) → Live R p → Is-move R p (move R p)
   has-move p l = subst (Is-move R p) (sym (move-is p)) (record {
-      legal = below;
-      reaches = reaching-is p (first-to (reaching p) (R .moves p)) (first-is (reaching p) (R .moves p) below);
-      first = λ j h e. let r = first-below (reaching p) (R .moves p) j (omega (arith, below)) (is-reaching p j e) in omega arith
-    })
+    legal = below;
+    reaches = reaching-is p (first-to (reaching p) (R .moves p)) (first-is (reaching p) (R .moves p) below);
+    first = λ j h e. let r = first-below (reaching p) (R .moves p) j (omega (arith, below)) (is-reaching p j e) in omega arith;
+  })
     where
       some : (j : ℕ) × Legal R p j × (worth R p ≡ comes-to R p j)
       some = worth-some p l
+
       below : first-to (reaching p) (R .moves p) < R .moves p
       below = let r = first-below (reaching p) (R .moves p) (some .0) (some .1) (is-reaching p (some .0) (sym (some .2))) in omega (arith, some .1)
 
@@ -222,9 +223,9 @@ module _ {P : Type 0} (R : Rules P) (L : Game-laws R) where
   one-move p m i =
       let o = has-move p (omega (arith, i .legal)) in
       elim (decLt m (move R p)) [
-        yes l ↦ absurd (o .first m l (i .reaches))
-      | no l ↦ elim (decLt (move R p) m) [
-          yes k ↦ absurd (i .first (move R p) k (o .reaches))
-        | no k ↦ omega arith
+        | yes l ↦ absurd (o .first m l (i .reaches))
+        | no l ↦ elim (decLt (move R p) m) [
+          | yes k ↦ absurd (i .first (move R p) k (o .reaches))
+          | no k ↦ omega arith
         ]
       ]

@@ -18,6 +18,7 @@ pub struct Child<P, M> {
 // A game with its sets. Every method is total and asks nothing of its caller.
 pub trait Game {
     type Position: Copy;
+
     type Set: Copy;
     // A move, as `pull` wants it.
     type Move: Copy;

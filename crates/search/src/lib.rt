@@ -1,8 +1,9 @@
 mod call;
 mod entry;
 mod game;
-mod theorems;
 mod table;
+mod theorems;
+
 pub use call::Answer;
 pub use call::BestMove;
 pub use call::Call;
@@ -14,8 +15,8 @@ pub use entry::Entry;
 pub use game::Child;
 pub use game::Game;
 pub use game::ROW;
+pub use table::Table;
 pub use theorems::bare_right;
 pub use theorems::sessions_right;
 pub use theorems::visits_right;
 pub use theorems::worth_right;
-pub use table::Table;

@@ -34,7 +34,7 @@ game-laws = record {
   few-moves = λ p. omega arith;
   low-top = λ p. let h = p .few in omega arith;
   low-height = λ p. let h = p .few in omega arith;
-  row-back = λ p. same-pile _ p (let h = p .few in omega arith) (bit-back (p .counting)) (bit-back (p .red))
+  row-back = λ p. same-pile _ p (let h = p .few in omega arith) (bit-back (p .counting)) (bit-back (p .red));
 }
 
 beq-eq : (a b : Bool) → Bool·beq a b ≡ true → a ≡ b
@@ -101,5 +101,5 @@ set-laws = record {
       let s = size-of (alike p) q i in
       let c = side-of (alike p) q i in
       (sym c, omega arith, λ j h. let o : j < min (p .stones) 2 = omega arith in (j, o, (ap (λ c. cond c (taken j) 0) (sym c), after-alike (U j) p q (taken j) s c (own-all j o))));
-  low-weight = λ s. omega arith
+  low-weight = λ s. omega arith;
 }

@@ -36,7 +36,7 @@ rules-of-play = record {
   top = λ p. p .stones;
   height = λ p. p .stones;
   row = λ p. p .stones ∷ cond (p .counting) 1 0 ∷ cond (p .red) 1 0 ∷ 0 ∷ 0 ∷ [];
-  position = λ r. record { stones = min (getD r 0 0) most-stones; counting = eqb (getD r 1 0) 1; red = eqb (getD r 2 0) 1; few = at-most (getD r 0 0) }
+  position = λ r. record { stones = min (getD r 0 0) most-stones; counting = eqb (getD r 1 0) 1; red = eqb (getD r 2 0) 1; few = at-most (getD r 0 0) };
 }
 
 -- The piles of p's size with p's side to move.
@@ -50,5 +50,5 @@ sets-of-piles = record {
   broad = alike;
   pull = λ p m t. alike p;
   narrow = λ p s t. alike p;
-  weight = λ s. min (s .stones) most-stones
+  weight = λ s. min (s .stones) most-stones;
 }

@@ -1,8 +1,8 @@
 ghost use Rattle.stones.specs.Examples.{Examples};
 ghost use Rattle.stones.specs.Piles.{alike, rules-of-play, sets-of-piles, taken};
-use crate::pile::PileSet;
-use crate::pile::Pile;
 use crate::pile::MOST_STONES;
+use crate::pile::Pile;
+use crate::pile::PileSet;
 use search::Child;
 use search::Game;
 use search::ROW;
@@ -14,8 +14,11 @@ pub struct Stones {
 
 pub impl Game for Stones as StonesGame {
     type Position = Pile;
+
     type Set = PileSet;
+
     type Move = u8;
+
     type Probe = PileSet;
 
     ghost rules = { rules-of-play };
@@ -104,5 +107,4 @@ pub impl Game for Stones as StonesGame {
 // What the definitions come to on small piles.
 pub fn examples_right()
     ensures { λ _. ⌜ Examples ⌝ }
-{
-}
+{}

@@ -9,9 +9,14 @@ mod tests {
     use book::read_line;
     use kayles::Board;
     use kayles::Pin;
+    use search::Bound;
+    use search::CallError;
+    use search::Game;
     use std::alloc::AllocError;
     use std::alloc::Global;
     use std::test::*;
+    use stones::Stones;
+    use stones::StonesGame;
 
     fn reports(heap: Global, book: &[u8], expected: &str) -> Result<bool, AllocError> {
         let report = proofread(heap, book)?;
@@ -170,5 +175,31 @@ mod tests {
             return Err(Fail::new("no run"));
         };
         check_eq((run.first, run.len), (5, 3))
+    }
+
+    #[test]
+    fn bounds_and_refusals() -> Result<(), Fail> {
+        let floor = Bound::of(true, 3);
+        let ceiling = Bound::of(false, 3);
+        check(floor.is_floor() && floor.decides(3) && !floor.decides(4))?;
+        check(!ceiling.is_floor() && ceiling.decides(3) && !ceiling.decides(2))?;
+        check_eq((CallError::ShortTrail.number(), CallError::GameOver.number()), (1, 10))
+    }
+
+    // Two piles of five stones that differ in their colour share a set; the side to move and the size tell piles apart.
+    #[test]
+    fn piles_of_stones() -> Result<(), Fail> {
+        let red = Stones::position(&[5, 1, 1, 0, 0]);
+        let blue = Stones::position(&[5, 1, 0, 0, 0]);
+        check(Stones::row(&red) == [5, 1, 1, 0, 0])?;
+        check(Stones::after(&red, 2).is_none())?;
+        let Some(child) = Stones::after(&red, 1) else {
+            return Err(Fail::new("no move"));
+        };
+        check_eq((child.gain, child.played), (2, 2))?;
+        check(Stones::row(&child.position) == [3, 0, 1, 0, 0])?;
+        let set = Stones::broad(&red);
+        check(Stones::belongs(&set, &Stones::probe(&blue)))?;
+        check(!Stones::belongs(&set, &Stones::probe(&child.position)))
     }
 }

@@ -12,5 +12,5 @@ returns g c =
     let E = g .T·Table·met .lawful (g .G·Game .sets) in
     record {
       kept = session-kept R Z L K D E;
-      end = λ f. session-ends R Z L D f K E
+      end = λ f. session-ends R Z L D f K E;
     }

@@ -15,5 +15,5 @@ returns g c =
       sound = λ p b x a s y n t v. visit-sound R Z L K D E v t;
       thrifty = λ p b x a s y n t v. visit-thrifty R Z L K D E v t;
       repeat = λ p b x a s y n d u z m h t v w. visit-again R Z L K D E v w h t;
-      end = λ f. visit-ends R Z L D f
+      end = λ f. visit-ends R Z L D f;
     }

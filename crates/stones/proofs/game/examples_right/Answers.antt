@@ -6,7 +6,18 @@ use Rattle.stones.proofs.game.examples_right.Needs as need
 pub returns : need.returns
 unfolding bare bare-moves bare-within best-to first-to move worth worth-by worth-within
 returns c = record {
-  worth-0 = refl; worth-1 = refl; worth-4 = refl; worth-6 = refl; worth-5 = refl;
-  move-4 = refl; move-6 = refl; move-5 = refl;
-  bare-0 = refl; bare-1 = refl; bare-4 = refl; bare-5 = refl; bare-7 = refl; bare-other = refl
+  worth-0 = refl;
+  worth-1 = refl;
+  worth-4 = refl;
+  worth-6 = refl;
+  worth-5 = refl;
+  move-4 = refl;
+  move-6 = refl;
+  move-5 = refl;
+  bare-0 = refl;
+  bare-1 = refl;
+  bare-4 = refl;
+  bare-5 = refl;
+  bare-7 = refl;
+  bare-other = refl;
 }
