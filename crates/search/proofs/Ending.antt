@@ -13,21 +13,21 @@ use Rattle.search.specs.declared.call.Reply.{Reply}
 use Rattle.search.specs.declared.call.Reply.the-variants.{Refused}
 use Rattle.search.specs.declared.entry.Entry.{Entry}
 use Rattle.search.specs.Bare.{Bare, bare, bare-visits, nothing-held}
-use Rattle.search.specs.Calls.{Accepted, Calls, Choosing, Does, Solving, aim, chosen, done, first-no, go-on, later-one, next, past-top, queried, refused, solved, this-one, wiped}
+use Rattle.search.specs.Calls.{Accepted, Calls, Choosing, Does, Solving, chosen, done, first-no, go-on, later-one, next, past-top, queried, refused, solved, this-one, wiped}
 use Rattle.search.specs.Entries.{offer}
 use Rattle.search.specs.Games.{Game-laws, Legal, Live, Rules}
 use Rattle.search.specs.Minimax.{comes-to, worth}
 use Rattle.search.specs.Promises.{Bare-right}
 use Rattle.search.specs.Sets.{Set-laws, Sets, joined}
-use Rattle.search.specs.Tables.{All-true, Memory, Memory-laws, Total}
-use Rattle.search.specs.Visits.{Tried, Unaided, Unaided-moves, Visit, at-once, by-cover, by-move, none-yet, one-more, remembered, rest-of, settled}
+use Rattle.search.specs.Tables.{All-true, Memory, Memory-laws}
+use Rattle.search.specs.Visits.{Tried, Unaided, Unaided-moves, Visit, at-once, by-cover, by-move, none-yet, one-more, remembered, rest-of, settled, aim}
 use Rattle.search.proofs.BareSearch.{bare-says, beq-false, beq-true, says-one}
 use Rattle.search.proofs.Sessions.{best-live, call-kept, missed-more, refused-or-not, solving}
 use Rattle.search.proofs.Soundness.{some-none, visit-sound}
 use Rattle.search.proofs.Thrift.{visit-equal}
 use Rattle.search.proofs.Worth.{worth-some}
 
-module _ {P S : Type 0} (R : Rules P) (Z : Sets P S) (L : Game-laws R) {X : Type 0} (D : Memory P S X) (F : Total D) where
+module _ {P S : Type 0} (R : Rules P) (Z : Sets P S) (L : Game-laws R) {X : Type 0} (D : Memory P S X) (E : Memory-laws Z D) where
   -- A visit of p at b that finds the table x.
   abbrev Made : P → ℕ → X → Type 0
   Made p b x = (a : Bool) × (s : S) × (y : X) × (n : ℕ) × Visit R Z D p b x a s y n
@@ -35,7 +35,7 @@ module _ {P S : Type 0} (R : Rules P) (Z : Sets P S) (L : Game-laws R) {X : Type
   moves-end : (l : ℕ) (p : P) (b i : ℕ) (x : X) (acc : S) (y : X) (n : ℕ) → settled R p b ≡ None → D .looks x p b None → ((j c : ℕ) → Legal R p j → (z : X) → Made (R .after p j) c z) → i + l ≡ R .moves p → Tried R Z D p b i x acc y n → Made p b x
   moves-end zero p b i x acc y n e u f h t =
       let d : i ≡ R .moves p = omega arith in
-      let k = F .kept y (offer acc (not (R .counting p)) b) in
+      let k = E .kept y (offer acc (not (R .counting p)) b) in
       (_, _, _, _, by-cover e u (subst (λ j. Tried R Z D p b j x acc y n) d t) (k .1))
   moves-end (suc l) p b i x acc y n e u f h t = go (Bool·beq (v .0) (R .counting p)) refl (moves-end l p b (suc i) x _ _ _ e u f (omega arith))
     where
@@ -50,14 +50,14 @@ module _ {P S : Type 0} (R : Rules P) (Z : Sets P S) (L : Game-laws R) {X : Type
 
       go : (c : Bool) → Bool·beq (v .0) (R .counting p) ≡ c → (Tried R Z D p b (suc i) x (joined R Z p i acc (Z .pull p i (v .1))) (v .2) (n + v .3) → Made p b x) → Made p b x
       go true d more =
-          let k = F .kept (v .2) (offer (Z .pull p i (v .1)) (R .counting p) b) in
+          let k = E .kept (v .2) (offer (Z .pull p i (v .1)) (R .counting p) b) in
           (_, _, _, _, by-move e u t legal (child (R .counting p) (beq-true (v .0) (R .counting p) d)) (k .1))
       go false d more = more (one-more t legal (child (not (R .counting p)) (beq-false (v .0) (R .counting p) d)))
 
   within-ends : (k : ℕ) (p : P) (b : ℕ) (x : X) → R .height p < k → Made p b x
   within-ends zero p b x h = absurd (omega arith)
   within-ends (suc k) p b x h =
-      go (settled R p b) refl (F .looked x p b .0) (F .looked x p b .1)
+      go (settled R p b) refl (E .looked x p b .0) (E .looked x p b .1)
       (λ j c l z. let r = L .falls p j l in within-ends k (R .after p j) c z (omega arith))
     where
       go : (o : Option Bool) → settled R p b ≡ o → (u : Option (Entry S)) → D .looks x p b u → ((j c : ℕ) → Legal R p j → (z : X) → Made (R .after p j) c z) → Made p b x
@@ -79,7 +79,7 @@ module _ {P S : Type 0} (R : Rules P) (Z : Sets P S) (L : Game-laws R) {X : Type
       go true u r = (_, _, _, go-on (omega arith) u (r .3))
       go false u r = (_, _, _, first-no (omega arith) u)
 
-  module _ (K : Set-laws R Z) (E : Memory-laws Z D) where
+  module _ (K : Set-laws R Z) where
     -- Some move reaches the worth, so the search for it ends.
     choosing-ends : (l : ℕ) (p : P) (w i : ℕ) (x : X) → i + l ≡ R .moves p → Live R p → w ≡ worth R p → ((j : ℕ) → j < i → comes-to R p j ≡ worth R p → ⊥) → All-true R Z D x → (m : ℕ) × (y : X) × (n : ℕ) × Choosing R Z D p w i x m y n
     choosing-ends zero p w i x h live e f t = let r = worth-some R L p live in absurd (f (r .0) (omega (arith, r .1)) (sym (r .2)))
@@ -114,7 +114,7 @@ module _ {P S : Type 0} (R : Rules P) (Z : Sets P S) (L : Game-laws R) {X : Type
             let o = solving R Z L K D E (v .3) (omega arith) (omega arith) t in
             let w = choosing-ends (R .moves p) p (v .0) 0 (v .1) (omega arith) (best-live R p cells a) (o .0) (λ j h. absurd (omega arith)) (o .1) in
             (_, _, chosen a (v .3) (w .3))
-        accepted-ends Wipe a = let w = F .wiped x in (_, _, wiped (w .1))
+        accepted-ends Wipe a = let w = E .wiped x in (_, _, wiped (w .1))
 
     calls-end : (cs : List (Call P)) (x : X) → All-true R Z D x → (rs : List Reply) × (z : X) × Calls R Z D x cs rs z
     calls-end [] x t = (_, _, done)
@@ -125,12 +125,15 @@ module _ {P S : Type 0} (R : Rules P) (Z : Sets P S) (L : Game-laws R) {X : Type
 
     pub session-ends : (x : X) (cs : List (Call P)) → (y : X) × (rs : List Reply) × (z : X) × D .wipes x y × Calls R Z D y cs rs z
     session-ends x cs =
-        let w = F .wiped x in
+        let w = E .wiped x in
         let k = calls-end cs (w .0) (λ e h. absurd (E .wipe-clears x (w .0) (w .1) e h)) in
         (w .0, k .0, k .1, w .1, k .2)
 
 nothing-laws : {P S : Type 0} (Z : Sets P S) → Memory-laws Z nothing-held
 nothing-laws Z = record {
+  looked = λ x p b. (None, refl);
+  kept = λ x e. (tt, tt);
+  wiped = λ x. (tt, tt);
   look-some = λ x p b e h. absurd (some-none h);
   look-none = λ x p b h d. d .1 .is-held;
   keep-adds = λ x e y f k h. absurd h;
@@ -139,9 +142,6 @@ nothing-laws Z = record {
   retain-keeps = λ x e y r k. r;
   retain-wipes = λ x y r w. r;
 }
-
-nothing-total : {P S : Type 0} → Total {P = P} {S = S} nothing-held
-nothing-total = record { looked = λ x p b. (None, refl); kept = λ x e. (tt, tt); wiped = λ x. (tt, tt) }
 
 module _ {P S : Type 0} (R : Rules P) (Z : Sets P S) (L : Game-laws R) (K : Set-laws R Z) where
   nothing-true : All-true R Z nothing-held tt
@@ -166,7 +166,7 @@ module _ {P S : Type 0} (R : Rules P) (Z : Sets P S) (L : Game-laws R) (K : Set-
 
   bare-visit : (p : P) (b : ℕ) → Bare R Z p b (bare R p b .0) (bare-visits R p b)
   bare-visit p b =
-      let v = visit-ends R Z L nothing-held nothing-total p b tt in
+      let v = visit-ends R Z L nothing-held (nothing-laws Z) p b tt in
       let o = bare-only p b (v .0) (v .3) (v .1, v .4) in
       subst₂ (Bare R Z p b) (o .0) (o .1) (v .1, v .4)
 

@@ -11,7 +11,7 @@ use Rattle.std.specs.declared.option.Option.the-variants.{None, Some}
 use Rattle.search.specs.declared.entry.Bound.{Bound}
 use Rattle.search.specs.declared.entry.Bound.the-variants.{Floor, Ceiling}
 use Rattle.search.specs.declared.entry.Entry.{Entry}
-use Rattle.search.specs.Entries.{Bounds, Decisive, True, bound-of, offer, verdict}
+use Rattle.search.specs.Entries.{Holds-of, Decisive, True, bound-of, offer, verdict}
 use Rattle.search.specs.Games.{Game-laws, Legal, Live, Rules}
 use Rattle.search.specs.Minimax.{Says, worth}
 use Rattle.search.specs.Promises.{Sound}
@@ -38,12 +38,12 @@ leb-says b v = go (leb b v) refl
     go false e = nleb→lt b v (subst (λ c. T (not c)) (sym e) tt)
 
 -- A true bound that decides b answers right.
-verdict-says : (d : Bound) (b w : ℕ) → Bounds d w → Decisive d b → Says (verdict d) b w
+verdict-says : (d : Bound) (b w : ℕ) → Holds-of d w → Decisive d b → Says (verdict d) b w
 verdict-says (Floor f) b w t d = omega arith
 verdict-says (Ceiling f) b w t d = omega arith
 
 -- A right answer gives a true bound.
-says-bounds : (a : Bool) (b w : ℕ) → 0 < b → Says a b w → Bounds (bound-of a b) w
+says-bounds : (a : Bool) (b w : ℕ) → 0 < b → Says a b w → Holds-of (bound-of a b) w
 says-bounds true b w h s = s
 says-bounds false b w h s = omega arith
 

@@ -1,6 +1,6 @@
 -- The visits made, held to those of the bare search.
 use mathlib.Core.Bool.{Bool, true, false, not}
-use mathlib.Core.Logic.{_⊎_, inl, inr}
+use mathlib.Core.Logic.{_↔_, _⊎_, inl, inr}
 use mathlib.Core.Path.{_≡_, refl, sym, ap, _∙_, subst}
 use native.Mathlib.Omega.{arith}
 use Prim.Native.Nat.{ℕ, zero, suc, _+_, _-_, _≤_, _<_}
@@ -10,7 +10,7 @@ use Rattle.search.specs.declared.entry.Entry.{Entry}
 use Rattle.search.specs.Bare.{bare-visits}
 use Rattle.search.specs.Entries.{Decisive, bound-of, offer}
 use Rattle.search.specs.Games.{Game-laws, Legal, Rules}
-use Rattle.search.specs.Promises.{Short, Sound, Thrifty}
+use Rattle.search.specs.Promises.{Immediate, Sound, Thrifty}
 use Rattle.search.specs.Sets.{Set-laws, Sets}
 use Rattle.search.specs.Tables.{All-true, Decided, Memory, Memory-laws, Serves}
 use Rattle.search.specs.Visits.{Tried, Unaided, Unaided-moves, Visit, at-once, by-cover, by-move, capped, none-yet, one-more, remembered, settled}
@@ -78,32 +78,27 @@ module _ {P S : Type 0} (R : Rules P) (Z : Sets P S) (L : Game-laws R) (K : Set-
     moves-some none-yet = omega arith
     moves-some (one-more r h v) = let a = moves-some r in let c = visit-some v in omega arith
 
-  one-short : {p : P} {b : ℕ} {x : X} {a : Bool} {s : S} {y : X} {n : ℕ} → Visit R Z D p b x a s y n → n ≡ 1 → Short R Z D p b x
-  one-short (at-once {a = a} e) h = inl (a, e)
-  one-short (remembered {p = p} {b = b} {x = x} {e = e} u l) h = inr (e, E .look-some x p b e l)
-  one-short (by-move e l r j v k) h = let a = moves-some r in let c = visit-some v in absurd (omega arith)
-  one-short (by-cover {p = p} {b = b} e l r k) h = let a = moves-some r in absurd (omega (arith, unsettled R p b e .live))
+  one-immediate : {p : P} {b : ℕ} {x : X} {a : Bool} {s : S} {y : X} {n : ℕ} → Visit R Z D p b x a s y n → n ≡ 1 → Immediate R Z D p b x
+  one-immediate (at-once {a = a} e) h = inl (a, e)
+  one-immediate (remembered {p = p} {b = b} {x = x} {e = e} u l) h = inr (e, E .look-some x p b e l)
+  one-immediate (by-move e l r j v k) h = let a = moves-some r in let c = visit-some v in absurd (omega arith)
+  one-immediate (by-cover {p = p} {b = b} e l r k) h = let a = moves-some r in absurd (omega (arith, unsettled R p b e .live))
 
-  not-short : (p : P) (b : ℕ) (x : X) → settled R p b ≡ None → D .looks x p b None → Short R Z D p b x → ⊥
-  not-short p b x e l (inl a) = some-none (sym (a .1) ∙ e)
-  not-short p b x e l (inr d) = E .look-none x p b l d
+  not-immediate : (p : P) (b : ℕ) (x : X) → settled R p b ≡ None → D .looks x p b None → Immediate R Z D p b x → ⊥
+  not-immediate p b x e l (inl a) = some-none (sym (a .1) ∙ e)
+  not-immediate p b x e l (inr d) = E .look-none x p b l d
 
-  pub short-one : {p : P} {b : ℕ} {x : X} {a : Bool} {s : S} {y : X} {n : ℕ} → Visit R Z D p b x a s y n → Short R Z D p b x → n ≡ 1
-  short-one (at-once e) h = refl
-  short-one (remembered u l) h = refl
-  short-one (by-move {p = p} {b = b} {x = x} e l r j v k) h = absurd (not-short p b x e l h)
-  short-one (by-cover {p = p} {b = b} {x = x} e l r k) h = absurd (not-short p b x e l h)
+  pub immediate-one : {p : P} {b : ℕ} {x : X} {a : Bool} {s : S} {y : X} {n : ℕ} → Visit R Z D p b x a s y n → Immediate R Z D p b x → n ≡ 1
+  immediate-one (at-once e) h = refl
+  immediate-one (remembered u l) h = refl
+  immediate-one (by-move {p = p} {b = b} {x = x} e l r j v k) h = absurd (not-immediate p b x e l h)
+  immediate-one (by-cover {p = p} {b = b} {x = x} e l r k) h = absurd (not-immediate p b x e l h)
 
-  pub visit-thrifty : {p : P} {b : ℕ} {x : X} {a : Bool} {s : S} {y : X} {n : ℕ} (v : Visit R Z D p b x a s y n) → All-true R Z D x → Thrifty R Z D (λ n. n) p b x a s y n v
-  visit-thrifty v t = record { most = visit-most v t; unaided = visit-equal v t; one = (one-short v, short-one v) }
+  pub visit-thrifty : {p : P} {b : ℕ} {x : X} {a : Bool} {s : S} {y : X} {n : ℕ} (v : Visit R Z D p b x a s y n) → All-true R Z D x → Thrifty (bare-visits R p b) n (Unaided R Z D v)
+  visit-thrifty v t = record { most = visit-most v t; equal = visit-equal v t }
 
-  -- The same of the counts that are told.
-  pub told-thrifty : {p : P} {b : ℕ} {x : X} {a : Bool} {s : S} {y : X} {n : ℕ} (v : Visit R Z D p b x a s y n) → All-true R Z D x → Thrifty R Z D capped p b x a s y n v
-  told-thrifty v t = record {
-    most = let h = visit-most v t in omega arith;
-    unaided = λ u. ap capped (visit-equal v t u);
-    one = (λ h. one-short v (omega arith), λ h. let e = short-one v h in omega arith);
-  }
+  pub visit-one : {p : P} {b : ℕ} {x : X} {a : Bool} {s : S} {y : X} {n : ℕ} → Visit R Z D p b x a s y n → (n ≡ 1) ↔ Immediate R Z D p b x
+  visit-one v = (one-immediate v, immediate-one v)
 
   -- What a visit offers decides the same question.
   offer-decides : (a : Bool) (b : ℕ) → 0 < b → Decisive (bound-of a b) b
@@ -122,11 +117,11 @@ module _ {P S : Type 0} (R : Rules P) (Z : Sets P S) (L : Game-laws R) (K : Set-
     moves-retain none-yet h = h
     moves-retain (one-more r j v) h = visit-retains v (moves-retain r h)
 
-  -- After a visit over a table that retains, the same visit is short.
-  visited-short : {p : P} {b : ℕ} {x : X} {a : Bool} {s : S} {y : X} {n : ℕ} → Visit R Z D p b x a s y n → D .retains x → All-true R Z D x → Short R Z D p b y
-  visited-short (at-once {a = a} e) h t = inl (a, e)
-  visited-short (remembered {p = p} {b = b} {x = x} {e = e} u l) h t = inr (e, E .look-some x p b e l)
-  visited-short (by-move {p = p} {b = b} {i = i} {z = z} {w = w} {s = s} e l r j v k) h t =
+  -- After a visit over a table that retains, the same visit is immediate.
+  visited-immediate : {p : P} {b : ℕ} {x : X} {a : Bool} {s : S} {y : X} {n : ℕ} → Visit R Z D p b x a s y n → D .retains x → All-true R Z D x → Immediate R Z D p b y
+  visited-immediate (at-once {a = a} e) h t = inl (a, e)
+  visited-immediate (remembered {p = p} {b = b} {x = x} {e = e} u l) h t = inr (e, E .look-some x p b e l)
+  visited-immediate (by-move {p = p} {b = b} {i = i} {z = z} {w = w} {s = s} e l r j v k) h t =
       inr (
         offer (Z .pull p i s) (R .counting p) b,
         record {
@@ -135,7 +130,7 @@ module _ {P S : Type 0} (R : Rules P) (Z : Sets P S) (L : Game-laws R) (K : Set-
           decides = offer-decides (R .counting p) b (unsettled R p b e .asks);
         },
       )
-  visited-short (by-cover {p = p} {b = b} {y = y} {z = z} {acc = acc} e l r k) h t =
+  visited-immediate (by-cover {p = p} {b = b} {y = y} {z = z} {acc = acc} e l r k) h t =
       inr (
         offer acc (not (R .counting p)) b,
         record {
@@ -146,4 +141,4 @@ module _ {P S : Type 0} (R : Rules P) (Z : Sets P S) (L : Game-laws R) (K : Set-
       )
 
   pub visit-again : {p : P} {b : ℕ} {x : X} {a c : Bool} {s u : S} {y z : X} {n m : ℕ} → Visit R Z D p b x a s y n → Visit R Z D p b y c u z m → D .retains x → All-true R Z D x → m ≡ 1
-  visit-again v w h t = short-one w (visited-short v h t)
+  visit-again v w h t = immediate-one w (visited-immediate v h t)

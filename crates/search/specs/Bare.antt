@@ -1,13 +1,14 @@
 -- The bare search: visits without look and keep.
 use mathlib.Core.Bool.{Bool, true, not, cond, Bool·beq}
 use mathlib.Core.Path.{_≡_}
-use Prim.Native.Nat.{ℕ, zero, suc, _+_}
+use Prim.Native.Nat.{ℕ, zero, suc, _+_, _-_, min}
 use Rattle.std.specs.declared.option.Option.{Option}
 use Rattle.std.specs.declared.option.Option.the-variants.{None, Some}
 use Rattle.search.specs.Games.{Rules}
+use Rattle.search.specs.Minimax.{move, worth}
 use Rattle.search.specs.Sets.{Sets}
 use Rattle.search.specs.Tables.{Memory}
-use Rattle.search.specs.Visits.{rest-of, settled, Visit}
+use Rattle.search.specs.Visits.{Visit, aim, rest-of, settled}
 
 -- An answer and the number of visits made for it, not held at any limit.
 abbrev pub Count : Type 0
@@ -29,7 +30,7 @@ module _ {P : Type 0} (R : Rules P) where
   bare-moves child p b zero i = (not (R .counting p), 0)
   bare-moves child p b (suc l) i = then (R .counting p) (child (R .after p i) (rest-of R p b i)) (bare-moves child p b l (suc i))
 
-  -- The bare search of a position of less height than the first number.
+  -- The bare search of a position of less height than the first number; at 0 there is no such position.
   unfoldable pub bare-within : ℕ → P → ℕ → Count
   bare-within zero p b = (true, 1)
   bare-within (suc k) p b = with-visit (settled R p b) (bare-moves (bare-within k) p b (R .moves p) 0)
@@ -41,6 +42,26 @@ module _ {P : Type 0} (R : Rules P) where
   -- How many visits the bare search makes.
   abbrev pub bare-visits : P → ℕ → ℕ
   bare-visits p b = bare p b .1
+
+-- What solve and best would make of bare searches.
+module _ {P : Type 0} (R : Rules P) where
+  -- The visits of the bare searches of p at b, b + 1 and so on, l of them.
+  unfoldable pub bare-from : ℕ → P → ℕ → ℕ
+  bare-from zero p b = 0
+  bare-from (suc l) p b = bare-visits R p b + bare-from l p (suc b)
+
+  -- The visits of a solve: at 1, 2 and so on up to one above the worth, which answers no, or up to the top if that is lower.
+  abbrev pub bare-solve : P → ℕ
+  bare-solve p = bare-from (min (R .top p) (worth R p + 1)) p 1
+
+  -- The visits of the bare searches of the positions after moves i, i + 1 and so on, l of them, each at best's bound.
+  unfoldable pub bare-after : ℕ → P → ℕ → ℕ
+  bare-after zero p i = 0
+  bare-after (suc l) p i = bare-visits R (R .after p i) (aim R p (worth R p) i) + bare-after l p (suc i)
+
+  -- The visits of a best: a solve, and then the moves up to the position's move.
+  abbrev pub bare-best : P → ℕ
+  bare-best p = bare-solve p + bare-after (move R p + 1) p 0
 
 -- The table that never holds any entry: looking there and keeping there do nothing.
 abbrev pub nothing-held : {P S : Type 0} → Memory P S (Unit {0})

@@ -8,10 +8,10 @@ use Rattle.search.specs.Games.{Rules}
 use Rattle.search.specs.Minimax.{worth}
 use Rattle.search.specs.Sets.{Sets, In}
 
--- The bound is true of a worth: a floor is at most that, a ceiling at least.
-abbrev pub Bounds : Bound → ℕ → Type 0
-Bounds (Floor f) w = f ≤ w
-Bounds (Ceiling f) w = w ≤ f
+-- The bound holds of a worth: a floor is at most that, a ceiling at least.
+abbrev pub Holds-of : Bound → ℕ → Type 0
+Holds-of (Floor f) w = f ≤ w
+Holds-of (Ceiling f) w = w ≤ f
 
 -- The bound decides whether a worth is at least b: a floor that reaches b does, and a ceiling below b.
 abbrev pub Decisive : Bound → ℕ → Type 0
@@ -34,4 +34,4 @@ offer s a b = record { set = s; bound = bound-of a b }
 
 -- The entry's bound is true of every member of its set, visited or not.
 abbrev pub True : {P S : Type 0} → Rules P → Sets P S → Entry S → Type 0
-True {P} R Z e = (q : P) → In Z (e .set) q → Bounds (e .bound) (worth R q)
+True {P} R Z e = (q : P) → In Z (e .set) q → Holds-of (e .bound) (worth R q)

@@ -2,7 +2,7 @@
 use mathlib.Core.Bool.{Bool, true}
 use mathlib.Core.Path.{_≡_}
 use Prim.Native.Nat.{ℕ, zero, suc, _≤_, _<_}
-use Rattle.search.specs.Games.{Rules, Legal, Ended, Live, most-points}
+use Rattle.search.specs.Games.{Ended, Game-laws, Legal, Live, Rules, most-points}
 
 -- A set system: sets S of positions P.
 pub record Sets (P S : Type 0) : Type 0 where
@@ -14,6 +14,7 @@ pub record Sets (P S : Type 0) : Type 0 where
   pub pull : P → ℕ → S → S
   -- what two sets have in common, or less
   pub narrow : P → S → S → S
+  -- how much a set weighs, by which a table may tell entries apart
   pub weight : S → ℕ
 
 -- p belongs to s.
@@ -58,3 +59,8 @@ pub record Set-laws {P S : Type 0} (R : Rules P) (Z : Sets P S) : Type 0 where
   pub cover-all : (p : P) (T : ℕ → S) → Live R p → ((i : ℕ) → Legal R p i → In Z (T i) (R .after p i)) → (q : P) → In Z (cover R Z p T) q → (R .counting q ≡ R .counting p) × Live R q × ((j : ℕ) → Legal R q j → (i : ℕ) × Legal R p i × Leads R Z q j (R .gain p i) (T i))
   -- the limit of a weight
   pub low-weight : (s : S) → Z .weight s ≤ most-points
+
+-- A game and a set system that keep all laws.
+pub record Lawful {P S : Type 0} (R : Rules P) (Z : Sets P S) : Type 0 where
+  pub game : Game-laws R
+  pub sets : Set-laws R Z

@@ -44,6 +44,10 @@ All-true R Z D x = (e : Entry _) → D .held x e → True R Z e
 
 -- The laws of tables. Look leaves the table as it is, so that it changes nothing held.
 pub record Memory-laws {P S X : Type 0} (Z : Sets P S) (D : Memory P S X) : Type 0 where
+  -- a table refuses nothing: look, keep and wipe always come to something
+  pub looked : (x : X) (p : P) (b : ℕ) → (o : Option (Entry S)) × D .looks x p b o
+  pub kept : (x : X) (e : Entry S) → (y : X) × D .keeps x e y
+  pub wiped : (x : X) → (y : X) × D .wipes x y
   -- look answers an entry that serves, and none only if no entry does
   pub look-some : (x : X) (p : P) (b : ℕ) (e : Entry S) → D .looks x p b (Some e) → Serves Z D x p b e
   pub look-none : (x : X) (p : P) (b : ℕ) → D .looks x p b None → Decided Z D x p b → ⊥
@@ -55,9 +59,3 @@ pub record Memory-laws {P S X : Type 0} (Z : Sets P S) (D : Memory P S X) : Type
   pub retain-holds : (x : X) (e : Entry S) (y : X) → D .retains x → D .keeps x e y → D .held y e
   pub retain-keeps : (x : X) (e : Entry S) (y : X) → D .retains x → D .keeps x e y → D .retains y
   pub retain-wipes : (x y : X) → D .retains x → D .wipes x y → D .retains y
-
--- A table refuses nothing: look, keep and wipe always come to something.
-pub record Total {P S X : Type 0} (D : Memory P S X) : Type 0 where
-  pub looked : (x : X) (p : P) (b : ℕ) → (o : Option (Entry S)) × D .looks x p b o
-  pub kept : (x : X) (e : Entry S) → (y : X) × D .keeps x e y
-  pub wiped : (x : X) → (y : X) × D .wipes x y

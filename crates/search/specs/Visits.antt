@@ -24,6 +24,11 @@ settled R p b = cond (eqb b 0) (Some true) (cond (ltb (R .top p) b) (Some false)
 abbrev pub rest-of : {P : Type 0} → Rules P → P → ℕ → ℕ → ℕ
 rest-of R p b i = b - R .gain p i
 
+-- The bound at which best asks about move i of p, which is worth w: on the counting side's turn w less the gain, on the
+-- other's w + 1 less the gain, or 0 if that is negative.
+abbrev pub aim : {P : Type 0} → Rules P → P → ℕ → ℕ → ℕ
+aim R p w i = cond (R .counting p) w (w + 1) - R .gain p i
+
 module _ {P S X : Type 0} (R : Rules P) (Z : Sets P S) (D : Memory P S X) where
   mutual
     -- Visit p b x a s y n: a visit of p at b finds the table x, answers a (true is yes) with the set s, leaves the table y
@@ -54,6 +59,7 @@ module _ {P S X : Type 0} (R : Rules P) (Z : Sets P S) (D : Memory P S X) where
     Unaided (by-move {x = x} e l t i v k) = Blank D x × Unaided-moves t × Unaided v
     Unaided (by-cover {x = x} e l t k) = Blank D x × Unaided-moves t
 
+    -- The same for the moves that were tried.
     pub Unaided-moves : {p : P} {b i : ℕ} {x : X} {s : S} {y : X} {n : ℕ} → Tried p b i x s y n → Type 0
     Unaided-moves none-yet = Unit {0}
     Unaided-moves (one-more t i v) = Unaided-moves t × Unaided v

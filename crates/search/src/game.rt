@@ -1,8 +1,8 @@
 ghost use mathlib.Core.Path.{_≡_};
 ghost use Prim.Native.Nat.{ℕ, _<_, _≤_};
 ghost use Rattle.std.specs.Options.{Cases};
-ghost use Rattle.search.specs.Games.{Game-laws, Is-child, Rules};
-ghost use Rattle.search.specs.Sets.{Set-laws, Sets};
+ghost use Rattle.search.specs.Games.{Is-child, Rules};
+ghost use Rattle.search.specs.Sets.{Lawful, Sets};
 
 // How many words a position's row has.
 pub const ROW: usize = 5;
@@ -34,9 +34,7 @@ pub trait Game {
 
     ghost probed: { Self·Position → Self·Probe };
 
-    law lawful: { Game-laws rules };
-
-    law sound: { Set-laws rules sets };
+    law lawful: { Lawful rules sets };
 
     // Whether the counting side is to move.
     fn counting(p: &Self::Position) -> bool

@@ -11,9 +11,11 @@ use Rattle.stones.specs.declared.pile.Pile.{Pile}
 use Rattle.search.specs.Games.{Rules}
 use Rattle.search.specs.Sets.{Sets}
 
+-- Taking stones leaves no more than the most.
 pub fewer : (n k : ℕ) → n ≤ most-stones → n - k ≤ most-stones
 fewer n k h = omega arith
 
+-- A number held at the most.
 pub at-most : (n : ℕ) → min n most-stones ≤ most-stones
 at-most n = omega arith
 

@@ -183,7 +183,10 @@ mod tests {
         let ceiling = Bound::of(false, 3);
         check(floor.is_floor() && floor.decides(3) && !floor.decides(4))?;
         check(!ceiling.is_floor() && ceiling.decides(3) && !ceiling.decides(2))?;
-        check_eq((CallError::ShortTrail.number(), CallError::GameOver.number()), (1, 10))
+        check_eq(
+            (CallError::ShortTrail.number(), CallError::GameOver.number()),
+            (1, 10),
+        )
     }
 
     // Two piles of five stones that differ in their colour share a set; the side to move and the size tell piles apart.

@@ -6,11 +6,11 @@ pub returns : need.returns
 returns g c =
     let R = g .G·Game .rules in
     let Z = g .G·Game .sets in
-    let L = g .G·Game·met .lawful in
-    let K = g .G·Game·met .sound in
+    let L = g .G·Game·met .lawful .game in
+    let K = g .G·Game·met .lawful .sets in
     let D = g .T·Table .memory (g .G·Game .sets) in
     let E = g .T·Table·met .lawful (g .G·Game .sets) in
     record {
       kept = session-kept R Z L K D E;
-      end = λ f. session-ends R Z L D f K E;
+      end = session-ends R Z L D E K;
     }
