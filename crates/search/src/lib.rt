@@ -1,3 +1,5 @@
+// What games, their sets and their tables mean, the interfaces that they fill in, and what is proved of every search over
+// them. The definitions are in specs/.
 mod call;
 mod entry;
 mod game;

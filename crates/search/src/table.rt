@@ -14,9 +14,11 @@ pub trait Table<G: Game> {
     fn look(&self, v: &G::Probe, b: u8) -> Option<Entry<G::Set>>
         ensures { λ r. ⌜ ((p : G·Position) → now (v .entry) ≡ G·Game .probed p → memory (G·Game .sets) .looks (now (self .entry)) p b r) ⌝ };
 
+    // Offers an entry to the table, which may drop others for it, or not keep it at all.
     fn keep(&mut self, e: &Entry<G::Set>)
         ensures { λ _. ⌜ memory (G·Game .sets) .keeps (now (self .entry)) (now (e .entry)) (now (self .exit)) ⌝ };
 
+    // Leaves nothing held.
     fn wipe(&mut self)
         ensures { λ _. ⌜ memory (G·Game .sets) .wipes (now (self .entry)) (now (self .exit)) ⌝ };
 }
