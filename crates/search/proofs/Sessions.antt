@@ -40,10 +40,9 @@ below n m e = ltb→lt n m (subst T (sym e) tt)
 abbrev refused-by : Bool → Bool → Option CallError
 refused-by u v = cond u (Some ShortTrail) (cond v (Some GameOver) None)
 
-refused-or-none : (u v : Bool) → (refused-by u v ≡ None) ⊎ ((e : CallError) × (refused-by u v ≡ Some e))
-refused-or-none true v = inr (ShortTrail, refl)
-refused-or-none false true = inr (GameOver, refl)
-refused-or-none false false = inl refl
+none-or-some : {A : Type 0} (o : Option A) → (o ≡ None) ⊎ ((a : A) × (o ≡ Some a))
+none-or-some None = inl refl
+none-or-some (Some a) = inr (a, refl)
 
 accepted-by : (u v : Bool) → refused-by u v ≡ None → (u ≡ false) × (v ≡ false)
 accepted-by true v e = absurd (some-none e)
@@ -57,10 +56,7 @@ short-by false false e h = absurd (some-none (sym h))
 
 module _ {P : Type 0} (R : Rules P) where
   pub refused-or-not : (c : Call P) → Accepted R c ⊎ ((e : CallError) × (refusal R c ≡ Some e))
-  refused-or-not (Query p b cells) = refused-or-none (ltb cells (R .height p)) false
-  refused-or-not (Solve p cells) = refused-or-none (ltb cells (R .height p)) false
-  refused-or-not (Best p cells) = refused-or-none (ltb cells (R .height p)) (eqb (R .moves p) 0)
-  refused-or-not Wipe = inl refl
+  refused-or-not c = none-or-some (refusal R c)
 
   query-fits : (p : P) (b cells : ℕ) → Accepted R (Query p b cells) → R .height p ≤ cells
   query-fits p b cells e = not-below cells (R .height p) (accepted-by (ltb cells (R .height p)) false e .0)
