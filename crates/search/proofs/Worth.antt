@@ -6,7 +6,7 @@ use mathlib.Core.Path.{_≡_, refl, sym, ap, ap₂, _∙_, subst}
 use native.Mathlib.Decide.{decLe, decLt}
 use native.Mathlib.Omega.{arith}
 use Prim.Native.Nat.{ℕ, zero, suc, _+_, _-_, _≤_, _<_, min, max}
-use Rattle.search.specs.Games.{Ended, Game-laws, Legal, Live, Rules}
+use Rattle.search.specs.Games.{Ended, Game-laws, Legal, Live, Rules, most-points}
 use Rattle.search.specs.Minimax.{Is-move, Minimax, best-to, better, comes-to, first-to, move, worth, worth-by, worth-within}
 
 -- The best of several numbers.
@@ -229,3 +229,12 @@ module _ {P : Type 0} (R : Rules P) (L : Game-laws R) where
           | no k ↦ omega arith
         ]
       ]
+
+  pub low-gain : (p : P) (m : ℕ) → Legal R p m → R .gain p m ≤ most-points
+  low-gain p m h = omega (arith, L .gain-top p m h, L .low-top p)
+
+  pub low-score : (p : P) → R .score p ≤ most-points
+  low-score p = elim (decLt 0 (R .moves p)) [
+    | yes l ↦ omega (arith, L .no-score p l)
+    | no l ↦ (let e : R .moves p ≡ 0 = omega arith in omega (arith, L .score-top p e, L .low-top p))
+  ]

@@ -16,13 +16,13 @@ use Rattle.search.specs.declared.call.Solution.{Solution}
 use Rattle.search.specs.declared.call.BestMove.{BestMove}
 use Rattle.search.specs.Bare.{Bare, bare, bare-best, bare-solve, bare-visits}
 use Rattle.search.specs.Calls.{Calls, Does, Unaided-choosing, Unaided-solving, chosen, done, next, number, queried, refused, solved, wiped}
-use Rattle.search.specs.Games.{Ended, Live, Rules}
+use Rattle.search.specs.Games.{Ended, Legal, Live, Rules, most-points}
 use Rattle.search.specs.Minimax.{Is-move, Minimax, Says, move, worth}
 use Rattle.search.specs.Sets.{Sets, In}
 use Rattle.search.specs.Tables.{All-true, Blank, Decided, Memory}
 use Rattle.search.specs.Visits.{Unaided, Visit, capped, settled}
 
--- The worth follows the rule of minimax, it alone does, and it is at most the top.
+-- The worth follows the rule of minimax, it alone does, and it is at most the top; and what follows from the limit of tops.
 pub record Worth-right {P : Type 0} (R : Rules P) : Type 0 where
   pub rule : Minimax R (worth R)
   pub only : (w : P → ℕ) → Minimax R w → (p : P) → w p ≡ worth R p
@@ -30,6 +30,9 @@ pub record Worth-right {P : Type 0} (R : Rules P) : Type 0 where
   -- of a position that is not ended, one move is the first to reach its worth
   pub has-move : (p : P) → Live R p → Is-move R p (move R p)
   pub one-move : (p : P) (m : ℕ) → Is-move R p m → m ≡ move R p
+  -- gains and end scores have the limit of tops
+  pub low-gain : (p : P) (m : ℕ) → Legal R p m → R .gain p m ≤ most-points
+  pub low-score : (p : P) → R .score p ≤ most-points
 
 -- The bare search answers by minimax, and it is the visit over the table that never holds any entry.
 pub record Bare-right {P S : Type 0} (R : Rules P) (Z : Sets P S) : Type 0 where
