@@ -1,4 +1,6 @@
 // The book of boards: its lines, what a line says, and the report that a proofreader gets.
+#![tactic(auto)]
+
 mod fault;
 mod line;
 mod reader;

@@ -1,4 +1,6 @@
 // Kayles: boards of up to 32 pins in a row, the game on them, and its sets.
+#![tactic(auto)]
+
 mod board;
 mod game;
 mod play;

@@ -1,4 +1,6 @@
 // Reads a book from standard input and prints the proofreading report on it.
+#![tactic(auto)]
+
 use book::proofread;
 use std::io::Read;
 

@@ -1,5 +1,5 @@
 -- The bare search keeps the rules of a visit and answers by minimax.
-use Rattle.std.proofs.Common.{◌≡◌, ℕ, zero, suc, ◌+◌, ◌-◌, ◌<◌, ◌≤◌, Bool, true, false, cond, not, Some, None, Option, sym, refl, ap, ◌∙◌, subst, ap₂, arith}
+use Rattle.std.proofs.Common.{◌≡◌, ℕ, zero, suc, ◌+◌, ◌<◌, ◌≤◌, Bool, true, false, cond, not, Some, None, Option, sym, refl, ap, ◌∙◌, subst, ap₂, arith}
 use mathlib.Core.Bool.{beq}
 use native.Mathlib.Decide.{dec_lt}
 use Rattle.search.specs.Bare.{Count, bare, bare_moves, bare_visits, bare_within, then, with_visit}

@@ -1,5 +1,5 @@
 -- Every visit and every list of calls can be made and ends. Over the table that holds nothing a visit is the bare search.
-use Rattle.std.proofs.Common.{◌≡◌, ℕ, zero, suc, ◌+◌, ◌<◌, ◌≤◌, Bool, true, false, not, ◌⊎◌, List, [], ◌∷◌, Some, None, Option, sym, refl, ◌∙◌, subst, subst₂, inl, inr, arith}
+use Rattle.std.proofs.Common.{◌≡◌, ℕ, zero, suc, ◌+◌, ◌<◌, Bool, true, false, not, List, [], ◌∷◌, Some, None, Option, sym, refl, subst, subst₂, inl, inr, arith}
 use mathlib.Core.Bool.{beq}
 use Rattle.search.specs.declared.call.Call.{Call}
 use Rattle.search.specs.declared.call.Call.TheVariants.{Query, Solve, Best, Wipe}
@@ -129,7 +129,7 @@ nothing_laws Z = record {
   kept = λ x e. (tt, tt);
   wiped = λ x. (tt, tt);
   look_some = λ x p b e h. absurd (some_none h);
-  look_none = λ x p b h d. d.1.is_held_lem;
+  look_none = λ x p b h d. d.1.is_held;
   keep_adds = λ x e y f k h. absurd h;
   wipe_clears = λ x y w e h. h;
   retain_holds = λ x e y r k. r;

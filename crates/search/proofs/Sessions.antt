@@ -1,5 +1,5 @@
 -- Every list of calls keeps what is promised.
-use Rattle.std.proofs.Common.{◌≡◌, ℕ, zero, suc, ◌+◌, ◌-◌, ◌<◌, ◌≤◌, min, Bool, true, false, cond, not, T, eqb, ltb, ◌⊎◌, List, [], ◌∷◌, Some, None, Option, sym, refl, ap, ◌∙◌, subst, subst₂, inl, inr, arith, eqb→eq, ltb→lt, nltb→le}
+use Rattle.std.proofs.Common.{◌≡◌, ℕ, zero, suc, ◌+◌, ◌-◌, ◌<◌, ◌≤◌, min, Bool, true, false, cond, not, T, eqb, ltb, ◌⊎◌, List, Some, None, Option, sym, refl, ap, ◌∙◌, subst, subst₂, inl, inr, arith, eqb→eq, ltb→lt, nltb→le}
 use mathlib.Core.Bool.{false≢true}
 use native.Mathlib.Decide.{dec_lt}
 use Rattle.search.specs.declared.call.Answer.{Answer}
@@ -8,7 +8,7 @@ use Rattle.search.specs.declared.call.Call.TheVariants.{Query, Solve, Best, Wipe
 use Rattle.search.specs.declared.call.CallError.{CallError}
 use Rattle.search.specs.declared.call.CallError.TheVariants.{ShortTrail, GameOver}
 use Rattle.search.specs.declared.call.Reply.{Reply}
-use Rattle.search.specs.declared.call.Reply.TheVariants.{Refused, Answered, Solved, Chosen, Wiped}
+use Rattle.search.specs.declared.call.Reply.TheVariants.{Refused, Answered}
 use Rattle.search.specs.Bare.{bare_after, bare_from, bare_visits}
 use Rattle.search.specs.Calls.{Accepted, Calls, Choosing, Does, Solving, UnaidedChoosing, UnaidedSolving, chosen, done, first_no, go_on, later_one, next, number, past_top, queried, refusal, refused, solved, this_one, wiped}
 use Rattle.search.specs.Games.{GameLaws, Legal, Live, Rules}

@@ -1,10 +1,9 @@
 -- Every visit over a table of true bounds is sound.
-use Rattle.std.proofs.Common.{◌≡◌, ℕ, zero, suc, ◌+◌, ◌-◌, ◌<◌, ◌≤◌, Bool, true, false, cond, not, T, eqb, ltb, leb, ◌⊎◌, Some, None, Option, sym, refl, ◌∙◌, subst, ap₂, inl, inr, arith, eqb→eq, ltb→lt, leb→le, nltb→le}
+use Rattle.std.proofs.Common.{◌≡◌, ℕ, zero, suc, ◌-◌, ◌<◌, ◌≤◌, Bool, true, false, cond, not, T, eqb, ltb, leb, Some, None, sym, refl, ◌∙◌, subst, ap₂, inl, inr, arith, eqb→eq, ltb→lt, leb→le, nltb→le}
 use lib.Dec.{eqb_refl, nleb→lt}
 use native.Mathlib.Decide.{dec_lt}
 use Rattle.search.specs.declared.entry.Bound.{Bound}
 use Rattle.search.specs.declared.entry.Bound.TheVariants.{Floor, Ceiling}
-use Rattle.search.specs.declared.entry.Entry.{Entry}
 use Rattle.search.specs.Entries.{HoldsOf, Decisive, True, bound_of, offer, verdict}
 use Rattle.search.specs.Games.{GameLaws, Legal, Live, Rules}
 use Rattle.search.specs.Minimax.{Says, worth}

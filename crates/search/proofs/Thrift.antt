@@ -1,13 +1,12 @@
 -- The visits made, held to those of the bare search.
-use Rattle.std.proofs.Common.{◌≡◌, ℕ, zero, suc, ◌+◌, ◌-◌, ◌<◌, ◌≤◌, Bool, true, false, not, ◌⊎◌, ◌↔◌, Some, None, Option, sym, refl, ap, ◌∙◌, subst, inl, inr, arith}
-use Rattle.search.specs.declared.entry.Entry.{Entry}
+use Rattle.std.proofs.Common.{◌≡◌, ℕ, suc, ◌+◌, ◌-◌, ◌<◌, ◌≤◌, Bool, true, false, not, ◌↔◌, None, sym, refl, ◌∙◌, subst, inl, inr, arith}
 use Rattle.search.specs.Bare.{bare_visits}
 use Rattle.search.specs.Entries.{Decisive, bound_of, offer}
-use Rattle.search.specs.Games.{GameLaws, Legal, Rules}
-use Rattle.search.specs.Promises.{Immediate, Sound, Thrifty}
+use Rattle.search.specs.Games.{GameLaws, Rules}
+use Rattle.search.specs.Promises.{Immediate, Thrifty}
 use Rattle.search.specs.Sets.{SetLaws, Sets}
-use Rattle.search.specs.Tables.{AllTrue, Decided, Memory, MemoryLaws, Serves}
-use Rattle.search.specs.Visits.{Tried, Unaided, UnaidedMoves, Visit, at_once, by_cover, by_move, capped, none_yet, one_more, remembered, settled}
+use Rattle.search.specs.Tables.{AllTrue, Memory, MemoryLaws}
+use Rattle.search.specs.Visits.{Tried, Unaided, UnaidedMoves, Visit, at_once, by_cover, by_move, none_yet, one_more, remembered, settled}
 use Rattle.search.proofs.BareSearch.{bare_open, bare_settled, bare_some, left, left_goes_on, left_none, left_stops}
 use Rattle.search.proofs.Soundness.{moves_sound, some_none, unsettled, visit_sound}
 
@@ -80,7 +79,7 @@ module _ {P S : Type 0} (R : Rules P) (Z : Sets P S) (L : GameLaws R) (K : SetLa
 
   not_immediate : (p : P) (b : ℕ) (x : X) → settled R p b ≡ None → D.looks x p b None → Immediate R Z D p b x → ⊥
   not_immediate p b x e l (inl a) = some_none (sym a.1 ∙ e)
-  not_immediate p b x e l (inr d) = E.look-None x p b l d
+  not_immediate p b x e l (inr d) = E.look_none x p b l d
 
   pub immediate_one : {p : P} {b : ℕ} {x : X} {a : Bool} {s : S} {y : X} {n : ℕ} → Visit R Z D p b x a s y n → Immediate R Z D p b x → n ≡ 1
   immediate_one (at_once e) h = refl

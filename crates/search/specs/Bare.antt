@@ -1,5 +1,5 @@
 -- The bare search: visits without look and keep.
-use Rattle.std.specs.Prelude.{◌≡◌, ℕ, zero, suc, ◌+◌, ◌-◌, min, Bool, true, cond, not, Some, None, Option}
+use Rattle.std.specs.Prelude.{◌≡◌, ℕ, zero, suc, ◌+◌, min, Bool, true, cond, not, Some, None, Option}
 use Rattle.std.specs.Bool.{beq}
 use Rattle.search.specs.Games.{Rules}
 use Rattle.search.specs.Minimax.{move, worth}

@@ -1,5 +1,5 @@
 -- Sets of positions that may share one memory, and the laws that every set system keeps.
-use Rattle.std.specs.Prelude.{◌≡◌, ℕ, zero, suc, ◌<◌, ◌≤◌, Bool, true}
+use Rattle.std.specs.Prelude.{◌≡◌, ℕ, zero, suc, ◌≤◌, Bool, true}
 use Rattle.search.specs.Games.{Ended, GameLaws, Legal, Live, Rules, most_points}
 
 -- A set system: sets S of positions P.

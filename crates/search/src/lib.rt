@@ -1,5 +1,7 @@
 // What games, their sets and their tables mean, the interfaces that they fill in, and what is proved of every search over
 // them. The definitions are in specs/.
+#![tactic(auto)]
+
 mod call;
 mod entry;
 mod game;

@@ -1,7 +1,7 @@
 -- The game of stones keeps the laws of games and of sets.
 use Rattle.std.specs.Prelude.{◌≡◌, ℕ, zero, suc, ◌+◌, ◌-◌, ◌<◌, ◌≤◌, min, Bool, true, false, cond, not, ◌&&◌, T, ◌==◌, refl}
 use Rattle.std.proofs.Math.Dec.{eqb_refl}
-use Rattle.std.proofs.Common.{eqb→eq, sym, ap, ap₂, ◌∙◌, subst, subst₂, arith}
+use Rattle.std.proofs.Common.{eqb→eq, sym, ap, ap₂, subst, subst₂, arith}
 use Rattle.std.specs.Bool.{beq}
 use Rattle.std.proofs.lemmas.Bool.{false≢true}
 use mathlib.Core.HLevel.{is_prop→PathP}
@@ -10,8 +10,8 @@ use Rattle.stones.specs.declared.pile.PileSet.{PileSet}
 use Rattle.stones.specs.declared.pile.Pile.{Pile}
 use Rattle.stones.specs.Limits.{most_stones}
 use Rattle.stones.specs.Piles.{alike, less, rules_of_play, sets_of_piles, taken}
-use Rattle.search.specs.Games.{GameLaws, Legal, Live}
-use Rattle.search.specs.Sets.{In, SetLaws, cover, cover_to}
+use Rattle.search.specs.Games.{GameLaws}
+use Rattle.search.specs.Sets.{In, SetLaws, cover_to}
 
 -- Piles are the same where what they hold is.
 pub same_pile : (p q : Pile) → p.stones ≡ q.stones → p.counting ≡ q.counting → p.red ≡ q.red → p ≡ q

@@ -1,5 +1,5 @@
 -- A small game, to try the search on: piles of stones.
-use Rattle.std.specs.Prelude.{ℕ, ◌+◌, ◌-◌, ◌≤◌, min, Bool, cond, not, ◌&&◌, [], ◌∷◌, ◌==◌, slice_index}
+use Rattle.std.specs.Prelude.{ℕ, ◌+◌, ◌-◌, ◌≤◌, min, cond, not, ◌&&◌, [], ◌∷◌, ◌==◌, slice_index}
 use Rattle.std.specs.Bool.{beq}
 use Rattle.std.proofs.Common.{arith}
 use Rattle.stones.specs.Limits.{most_stones}

@@ -1,4 +1,6 @@
 // Tests of the crates below through their public calls, beside answers worked out by hand.
+#![tactic(auto)]
+
 #[cfg(test)]
 mod boards;
 
