@@ -5,7 +5,7 @@ use Rattle.std.proofs.Common.{sym, ◌∙◌, subst, inl, inr, mod-eq_of_lt, mul
 use Rattle.std.proofs.Math.Nat.{add-mul, add-mul-div_left, add-mul-mod_self_left}
 use native.Mathlib.Omega.{arith}
 use Rattle.std.proofs.Math.Arith.{digits_div}
-use Rattle.std.proofs.str.Laws.{order}
+use Rattle.std.proofs.lemmas.Bool.{cases_lt}
 use Rattle.kayles.specs.Tallies.{place, radix, sum_to}
 use Rattle.kayles.specs.Splitting.{one, one_off, one_self}
 
@@ -22,7 +22,7 @@ place_pos (suc n) = mul-pos (place_pos n) (omega arith)
 place_split : (j n : ℕ) → j ≤ n → (c : ℕ) × (place n ≡ place j * c)
 unfolding place
 place_split j zero h = (1, ap place (let e : 0 ≡ j = omega arith in e) ∙ sym (mul-one (place j)))
-place_split j (suc n) h = go (λ l. place_split j n l) (order j (suc n))
+place_split j (suc n) h = go (λ l. place_split j n l) (cases_lt j (suc n))
   where
     go : (j ≤ n → (c : ℕ) × (place n ≡ place j * c)) → (j < suc n) ⊎ (suc n ≤ j) → (c : ℕ) × (place (suc n) ≡ place j * c)
     go ih (inl l) = let s = ih (omega arith) in (s.0 * radix (suc n), ap (λ k. k * radix (suc n)) s.1 ∙ mul_assoc (place j) s.0 (radix (suc n)))
@@ -46,7 +46,7 @@ regroup f n a r c e = mul_comm f n ∙ ap (λ k. k * f) e ∙ mul_assoc (a * r) 
 pub digit_at : (f : ℕ → ℕ) (j n : ℕ) → Small f → j < n → digits f n / place j % radix (suc j) ≡ f (suc j)
 unfolding sum_to place
 digit_at f j zero s h = absurd (omega arith)
-digit_at f j (suc n) s h = go (digit_at f j n s) (order j n)
+digit_at f j (suc n) s h = go (digit_at f j n s) (cases_lt j n)
   where
     -- the highest
     top : digits f (suc n) / place n % radix (suc n) ≡ f (suc n)
@@ -91,7 +91,7 @@ module _ (w : ℕ → ℕ) where
   pub sum_one : (l n : ℕ) → l < n → sum_to w (λ x. one x (suc l)) n ≡ w l
   unfolding sum_to
   sum_one l zero h = absurd (omega arith)
-  sum_one l (suc n) h = go (sum_one l n) (order l n)
+  sum_one l (suc n) h = go (sum_one l n) (cases_lt l n)
     where
       go : (l < n → sum_to w (λ x. one x (suc l)) n ≡ w l) → (l < n) ⊎ (n ≤ l) → sum_to w (λ x. one x (suc l)) n + one (suc n) (suc l) * w n ≡ w l
       go ih (inl k) = omega (arith, ih k, ap (λ k. k * w n) (one_off (suc n) (suc l) (omega arith)))

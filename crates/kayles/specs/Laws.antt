@@ -2,7 +2,7 @@
 use Rattle.std.specs.Prelude.{◌≡◌, ℕ, zero, suc, ◌+◌, ◌-◌, ◌*◌, ◌%◌, ◌^◌, ◌<◌, ◌≤◌, min, Bool, true, false, cond, not, ◌&&◌, T, List, [], ◌∷◌, length, ◌==◌, slice_index_or, refl}
 use Rattle.std.proofs.Common.{sym, ap, ap₂, ◌∙◌, subst, subst₂, mod-eq_of_lt, arith}
 use Rattle.std.specs.Bool.{beq}
-use Rattle.std.proofs.cmp.Tests.{bool-equal}
+use Rattle.std.specs.Cmp.{booleans_Decides}
 use Rattle.std.proofs.lemmas.Bool.{and_from, and_left, and_parts, cond-false, eq-eqb, eqb-true, ne_eqb}
 use Rattle.kayles.specs.declared.board.Pin.{Pin}
 use Rattle.kayles.specs.declared.position.Knock.{Knock}
@@ -102,10 +102,10 @@ game_laws = record {
 pub names : (s : RunSet) (p : Position) → In kayles_sets s p → (s.word ≡ word (pins_of p)) × (s.counting ≡ p.counting)
 names s p i =
     let b = and_parts (s.word == word (pins_of p)) (beq s.counting p.counting) i in
-    (eqb-true s.word (word (pins_of p)) b.0, (bool-equal s.counting p.counting).0 b.1)
+    (eqb-true s.word (word (pins_of p)) b.0, (booleans_Decides s.counting p.counting).0 b.1)
 
 own : (p : Position) → In kayles_sets (set_of p) p
-own p = and_from _ _ (eq-eqb (word (pins_of p)) (word (pins_of p)) refl) ((bool-equal p.counting p.counting).1 refl)
+own p = and_from _ _ (eq-eqb (word (pins_of p)) (word (pins_of p)) refl) ((booleans_Decides p.counting p.counting).1 refl)
 
 -- one side to move, and as many runs of each length
 abbrev pub Like : Position → Position → Type 0

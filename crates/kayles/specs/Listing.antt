@@ -2,7 +2,7 @@
 use Rattle.std.specs.Prelude.{◌≡◌, ℕ, ◌+◌, ◌<◌, ◌≤◌, ◌⊎◌, List, [], ◌∷◌, ◌++◌, length, get_or, slice_index_or, refl}
 use Rattle.std.proofs.Common.{sym, ap, subst, ◌∙◌, inl, inr, arith}
 use Rattle.std.proofs.lemmas.List.{get_or_push, get_or_append_left, length_push}
-use Rattle.std.proofs.str.Laws.{order}
+use Rattle.std.proofs.lemmas.Bool.{cases_lt}
 use Rattle.kayles.specs.declared.board.Pin.{Pin}
 use Rattle.kayles.specs.declared.runs.Run.{Run}
 use Rattle.kayles.specs.Runs.{IsRun, FirstRun, NoRun, RunsOf, no_run}
@@ -26,7 +26,7 @@ listed_none ps = record {
 
 -- what holds of each element, and of one more
 each_push : (P : Run → Type 0) (rs : List Run) (x : Run) → ((k : ℕ) → k < length rs → P (slice_index_or rs k no_run)) → P x → (k : ℕ) → k < length (rs ++ x ∷ []) → P (slice_index_or (rs ++ x ∷ []) k no_run)
-each_push P rs x h p k l = go (order k (length rs))
+each_push P rs x h p k l = go (cases_lt k (length rs))
   where
     go : (k < length rs) ⊎ (length rs ≤ k) → P (slice_index_or (rs ++ x ∷ []) k no_run)
     go (inl a) = subst P (sym (get_or_append_left rs (x ∷ []) no_run k a)) (h k a)
@@ -37,8 +37,8 @@ pub listed_more : (ps : List Pin) (from : ℕ) (rs : List Run) (r : Run) → Lis
 listed_more ps from rs r l f = record {
   each = each_push (IsRun ps) rs r l.each f.is_run;
   early = each_push (λ x. x.first < r.first + r.len) rs r (λ k a. omega (arith, l.early k a, f.late)) (omega (arith, f.is_run.some));
-  order = λ j k a b. sorted j k a (order k (length rs)) b;
-  all = λ q t e. found q t e (order q.first from);
+  order = λ j k a b. sorted j k a (cases_lt k (length rs)) b;
+  all = λ q t e. found q t e (cases_lt q.first from);
 }
   where
     sorted : (j k : ℕ) → j < k → (k < length rs) ⊎ (length rs ≤ k) → k < length (rs ++ r ∷ []) → (get_or (rs ++ r ∷ []) j no_run).first < (get_or (rs ++ r ∷ []) k no_run).first

@@ -1,7 +1,7 @@
 -- The list of the moves on a row: only moves, in order, and all of them; and the row that a move leaves.
 use Rattle.std.specs.Prelude.{◌≡◌, ℕ, zero, suc, ◌+◌, ◌-◌, ◌<◌, ◌≤◌, Bool, true, false, cond, T, ◌⊎◌, List, [], ◌∷◌, length, slice_index_or, refl}
 use Rattle.std.proofs.Common.{sym, ap, ◌∙◌, subst, inl, inr, arith}
-use Rattle.std.proofs.str.Laws.{order}
+use Rattle.std.proofs.lemmas.Bool.{cases_lt}
 use Rattle.kayles.specs.declared.board.Pin.{Pin}
 use Rattle.kayles.specs.declared.board.Pin.TheVariants.{Standing, Down}
 use Rattle.kayles.specs.declared.position.Knock.{Knock}
@@ -202,7 +202,7 @@ leaves ps k h = record { pins = length-left k ps; hit = hit; others = others }
 
     others : (i : ℕ) → (Hits k i → ⊥) → slice_index_or (Down ∷ fallen_after (k.pin - 1) k.pins ps) i Down ≡ slice_index_or (Down ∷ ps) i Down
     others zero a = refl
-    others (suc j) a = after_else (k.pin - 1) k.pins j ps (apart (order j (k.pin - 1)) (order j (k.pin - 1 + k.pins)))
+    others (suc j) a = after_else (k.pin - 1) k.pins j ps (apart (cases_lt j (k.pin - 1)) (cases_lt j (k.pin - 1 + k.pins)))
       where
         apart : (j < k.pin - 1) ⊎ (k.pin - 1 ≤ j) → (j < k.pin - 1 + k.pins) ⊎ (k.pin - 1 + k.pins ≤ j) → (j < k.pin - 1) ⊎ (k.pin - 1 + k.pins ≤ j)
         apart (inl b) c = inl b

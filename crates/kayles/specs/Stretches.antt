@@ -4,7 +4,7 @@ use Rattle.std.proofs.Common.{sym, ap, ◌∙◌, subst, inl, inr, arith}
 use Rattle.std.proofs.lemmas.Bool.{false≢true}
 use Rattle.std.proofs.lemmas.Nat.{and_mask}
 use Rattle.std.proofs.lemmas.List.{get_or_past}
-use Rattle.std.proofs.str.Laws.{order}
+use Rattle.std.proofs.lemmas.Bool.{cases_lt}
 use Rattle.kayles.specs.declared.board.Pin.{Pin}
 use Rattle.kayles.specs.declared.board.Pin.TheVariants.{Standing, Down}
 use Rattle.kayles.specs.declared.runs.Run.{Run}
@@ -32,7 +32,7 @@ stands_bit n m k h l s = pin_up _ (sym (tested n m k h l) ∙ s)
 
 -- a run lies within the row
 pub run_fits : (ps : List Pin) (r : Run) → IsRun ps r → r.first + r.len ≤ length ps + 1
-run_fits ps r t = go (order (length ps + 1) (r.first + r.len))
+run_fits ps r t = go (cases_lt (length ps + 1) (r.first + r.len))
   where
     go : (length ps + 1 < r.first + r.len) ⊎ (r.first + r.len ≤ length ps + 1) → r.first + r.len ≤ length ps + 1
     go (inl h) = absurd (none_past ps (r.first + r.len - 1) (omega arith) (t.stand (r.first + r.len - 1) (omega (arith, t.some)) (omega (arith, t.some))))
@@ -48,7 +48,7 @@ same_run ps r q t u a b = λ i. record { first = first i; len = len i }
     first_at (inr h) (inr k) = omega arith
 
     first : r.first ≡ q.first
-    first = first_at (order r.first q.first) (order q.first r.first)
+    first = first_at (cases_lt r.first q.first) (cases_lt q.first r.first)
 
     len_at : (r.len < q.len) ⊎ (q.len ≤ r.len) → (q.len < r.len) ⊎ (r.len ≤ q.len) → r.len ≡ q.len
     len_at (inl h) k = absurd (t.after (u.stand (r.first + r.len) (omega (arith, first)) (omega (arith, first))))
@@ -56,7 +56,7 @@ same_run ps r q t u a b = λ i. record { first = first i; len = len i }
     len_at (inr h) (inr k) = omega arith
 
     len : r.len ≡ q.len
-    len = len_at (order r.len q.len) (order q.len r.len)
+    len = len_at (cases_lt r.len q.len) (cases_lt q.len r.len)
 
 -- the n pins up to pin i stand, but not the one before them, and the runs that end before pin i begin before pin `from`
 pub record Walked (ps : List Pin) (from i n : ℕ) : Type 0 where
@@ -77,9 +77,9 @@ walked_none ps from = record {
 pub walked_up : (ps : List Pin) (from i n : ℕ) → Walked ps from i n → Stands ps (i + 1) → Walked ps from (i + 1) (n + 1)
 walked_up ps from i n w s = record {
   within = omega (arith, w.within);
-  stand = λ k a b. at k (omega (arith, w.within)) b (order k (i + 1));
+  stand = λ k a b. at k (omega (arith, w.within)) b (cases_lt k (i + 1));
   before = λ t. w.before (subst (Stands ps) (let e : i + 1 - (n + 1) ≡ i - n = omega arith in e) t);
-  early = λ r t e. begins r t e (order (r.first + r.len) (i + 1));
+  early = λ r t e. begins r t e (cases_lt (r.first + r.len) (i + 1));
 }
   where
     at : (k : ℕ) → i - n < k → k ≤ i + 1 → (k < i + 1) ⊎ (i + 1 ≤ k) → Stands ps k
@@ -102,14 +102,14 @@ module _ (ps : List Pin) (from i n : ℕ) (w : Walked ps from i n) (d : Stands p
 
   -- where they are the one that is sought
   pub found_run : (q : Run) → (0 < n) × (from ≤ q.first) × (q.first + n ≡ i + 1) × (q.len ≡ n) → FirstRun ps from q
-  found_run q (h, late, e, l) = record { is_run = is; late = late; earliest = λ p t a. first p t a (order p.first q.first) }
+  found_run q (h, late, e, l) = record { is_run = is; late = late; earliest = λ p t a. first p t a (cases_lt p.first q.first) }
     where
       is : IsRun ps q
       is = last_is q h e l
 
       first : (p : Run) → IsRun ps p → from ≤ p.first → (p.first < q.first) ⊎ (q.first ≤ p.first) → q.first ≤ p.first
       first p t a (inr k) = k
-      first p t a (inl k) = ends (order (p.first + p.len) (i + 1))
+      first p t a (inl k) = ends (cases_lt (p.first + p.len) (i + 1))
         where
           ends : (p.first + p.len < i + 1) ⊎ (i + 1 ≤ p.first + p.len) → q.first ≤ p.first
           ends (inl b) = absurd (omega (arith, w.early p t (omega arith)))
@@ -121,13 +121,13 @@ module _ (ps : List Pin) (from i n : ℕ) (w : Walked ps from i n) (d : Stands p
     within = omega arith;
     stand = λ k a b. absurd (omega arith);
     before = λ t. d (subst (Stands ps) (let e : i + 1 - 0 ≡ i + 1 = omega arith in e) t);
-    early = λ r t e. begins r t e (order (r.first + r.len) (i + 1)) c;
+    early = λ r t e. begins r t e (cases_lt (r.first + r.len) (i + 1)) c;
   }
     where
       begins : (r : Run) → IsRun ps r → r.first + r.len ≤ i + 1 → (r.first + r.len < i + 1) ⊎ (i + 1 ≤ r.first + r.len) → (n ≡ 0) ⊎ (i + 1 < from + n) → r.first < from
       begins r t e (inl h) k = w.early r t (omega arith)
       begins r t e (inr h) (inl k) = absurd (w.before (t.stand (i - n) (omega (arith, t.some)) (omega (arith, t.some))))
-      begins r t e (inr h) (inr k) = go (order 0 n)
+      begins r t e (inr h) (inr k) = go (cases_lt 0 n)
         where
           go : (0 < n) ⊎ (n ≤ 0) → r.first < from
           go (inr z) = absurd (w.before (t.stand (i - n) (omega (arith, t.some)) (omega (arith, t.some))))

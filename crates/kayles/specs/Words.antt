@@ -2,7 +2,7 @@
 use Rattle.std.specs.Prelude.{◌≡◌, ℕ, zero, suc, ◌+◌, ◌-◌, ◌*◌, ◌/◌, ◌%◌, ◌<◌, ◌≤◌, ◌⊎◌, List, [], ◌∷◌, length, refl}
 use Rattle.std.proofs.Common.{sym, ap, ◌∙◌, inl, inr, le-div_iff_mul-le, arith}
 use Rattle.std.proofs.Math.Nat.{div-div-eq-div-mul}
-use Rattle.std.proofs.str.Laws.{order}
+use Rattle.std.proofs.lemmas.Bool.{cases_lt}
 use Rattle.kayles.specs.declared.board.Pin.{Pin}
 use Rattle.kayles.specs.declared.board.Pin.TheVariants.{Standing, Down}
 use Rattle.kayles.specs.declared.runs.Run.{Run}
@@ -103,7 +103,7 @@ word_low ps h = omega (arith, word_is ps h, pins_few ps h, digits_lt (λ x. coun
 -- rows with one word have as many runs of each length, and the other way round
 pub same_word : (ps qs : List Pin) → length ps ≤ most_pins → length qs ≤ most_pins → word ps ≡ word qs → Same ps qs
 same_word ps qs a b e zero h = absurd (omega arith)
-same_word ps qs a b e (suc j) h = go (order j most_pins)
+same_word ps qs a b e (suc j) h = go (cases_lt j most_pins)
   where
     go : (j < most_pins) ⊎ (most_pins ≤ j) → counted (suc j) 0 ps ≡ counted (suc j) 0 qs
     go (inl l) = sym (word_runs ps a j l) ∙ ap (λ w. w / (room * place j) % radix (suc j)) e ∙ word_runs qs b j l

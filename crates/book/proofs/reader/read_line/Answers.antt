@@ -7,37 +7,37 @@ use Rattle.book.specs.BoardLines.{kayles_opening}
 use Rattle.book.specs.Tags.{Tagged, closing}
 use Rattle.book.proofs.Verdicts.{reads}
 use Rattle.book.proofs.reader.read_line.Goals as goal
-use Rattle.book.proofs.reader.read_line.Goals.{In-Some-strip-suffix}
+use Rattle.book.proofs.reader.read_line.Goals.{In-Some-strip_suffix}
 use Rattle.std.proofs.lemmas.Bool.Decides.{Decides-eqb}
 
 -- the line is its kayles_opening, the text and the closing
-tagged : (c : In-Some-strip-suffix) → Tagged kayles_opening c.args.line.now c.in-Some-strip-suffix.text.now
+tagged : (c : In-Some-strip_suffix) → Tagged kayles_opening c.args.line.now c.in-Some-strip_suffix.text.now
 tagged c =
     strip_prefix_is Decides-eqb c.args.line.now kayles_opening (Some c.in-Some.rest) c.in-Some.ensures.cases
-    ∙ ap (λ l. kayles_opening ++ l) (strip_suffix_is Decides-eqb c.in-Some.rest.now closing (Some c.in-Some-strip-suffix.text) c.in-Some-strip-suffix.ensures.cases)
+    ∙ ap (λ l. kayles_opening ++ l) (strip_suffix_is Decides-eqb c.in-Some.rest.now closing (Some c.in-Some-strip_suffix.text) c.in-Some-strip_suffix.ensures.cases)
 
-pub returns-in-default : goal.returns-in-default
-returns-in-default c = reads _ _ (λ o. strip_prefix_is c.args.line.now kayles_opening None c.in-default.ensures.cases o.0 o.1)
+pub returns-in_default : goal.returns-in_default
+returns-in_default c = reads _ _ (λ o. strip_prefix_is c.args.line.now kayles_opening None c.in_default.ensures.cases o.0 o.1)
 
-pub returns-in-default-strip-suffix : goal.returns-in-default-strip-suffix
-returns-in-default-strip-suffix c =
+pub returns-in_default-strip_suffix : goal.returns-in_default-strip_suffix
+returns-in_default-strip_suffix c =
     let head = strip_prefix_is Decides-eqb c.args.line.now kayles_opening (Some c.in-Some.rest) c.in-Some.ensures.cases in
     reads _ _ (inl (record {
       opened = (c.in-Some.rest.now, head);
-      unclosed = λ text t. strip_suffix_is c.in-Some.rest.now closing None c.in-default-strip-suffix.ensures.cases text (append_cancel_left kayles_opening _ _ (sym head ∙ t));
+      unclosed = λ text t. strip_suffix_is c.in-Some.rest.now closing None c.in_default-strip_suffix.ensures.cases text (append_cancel_left kayles_opening _ _ (sym head ∙ t));
       fault = refl;
       place = refl;
     }))
 
-pub returns-in-err-read-board : goal.returns-in-err-read-board
-returns-in-err-read-board c =
+pub returns-in_err-read_board : goal.returns-in_err-read_board
+returns-in_err-read_board c =
     let p = err_from_is_err_and c.from-residual.result c.from-residual.ensures.1 in
     rw (p.1, p.2) (reads _ _ (inr (record {
-      text = c.in-Some-strip-suffix.text.now;
-      tagged = tagged (goal.at.returns-in-err-read-board c).In-Some-strip-suffix;
-      first = c.in-err-read-board.ensures;
+      text = c.in-Some-strip_suffix.text.now;
+      tagged = tagged (goal.at.returns-in_err-read_board c).In-Some-strip_suffix;
+      first = c.in_err-read_board.ensures;
     })))
 
 pub returns : goal.returns
 returns c =
-    reads _ _ (c.in-Some-strip-suffix.text.now, tagged (goal.at.returns c).In-Some-strip-suffix, c.in-ok-read-board.ensures, row_few c.in-ok-read-board.field-0)
+    reads _ _ (c.in-Some-strip_suffix.text.now, tagged (goal.at.returns c).In-Some-strip_suffix, c.in_ok-read_board.ensures, row_few c.in_ok-read_board.field-0)

@@ -11,10 +11,10 @@ use Rattle.book.proofs.report.proofread.Goals as goal
 the_report : (book out : List ℕ) → Report book out → TheReport book out
 the_report book out s = (s, λ other t. same_report book other out t s)
 
-pub returns-then-book-gt-BOOK-LIMIT : goal.returns-then-book-gt-BOOK-LIMIT
-returns-then-book-gt-BOOK-LIMIT c =
+pub returns-then-book-gt-BOOK_LIMIT : goal.returns-then-book-gt-BOOK_LIMIT
+returns-then-book-gt-BOOK_LIMIT c =
     IfOk-weaker c.format.result _ (λ s. TheReport c.args.book.now (string_bytes s))
-    (λ s e. the_report _ _ (subst (Report c.args.book.now) (ap (λ k. concat (codes "book fault " ∷ decimal k ∷ codes "\n" ∷ [])) (sym c.number-number.ensures) ∙ sym e) (too_long c.if-book-gt-BOOK-LIMIT.true)))
+    (λ s e. the_report _ _ (subst (Report c.args.book.now) (ap (λ k. concat (codes "book fault " ∷ decimal k ∷ codes "\n" ∷ [])) (sym c.number-number.ensures) ∙ sym e) (too_long c.if-book-gt-BOOK_LIMIT.true)))
     c.format.ensures.ok
 
 pub loop-i-init : goal.loop-i-init
@@ -24,11 +24,11 @@ pub loop-i-preserved : goal.loop-i-preserved
 loop-i-preserved c =
     let ls = c.deref-line-items.result.now in
     let i = c.loop-i.i in
-    subst (AllAnswered 1 (take (i + 1) ls)) (sym (pushed c.as-str.result.now refl c.in-ok-push-str.was c.push-str.ensures.bytes ∙ ap (λ y. string_bytes c.loop-i.report ++ y) c.as-str.ensures.value))
-    (answered_turn ls i _ (string_bytes c.loop-i.report) _ c.loop-i-test.true c.loop-i.invariant c.in-ok-answer.ensures)
+    subst (AllAnswered 1 (take (i + 1) ls)) (sym (pushed c.as_str.result.now refl c.in_ok-push_str.was c.push_str.ensures.bytes ∙ ap (λ y. string_bytes c.loop-i.report ++ y) c.as_str.ensures.value))
+    (answered_turn ls i _ (string_bytes c.loop-i.report) _ c.loop-i-test.true c.loop-i.invariant c.in_ok-answer.ensures)
 
 pub returns : goal.returns
 returns c =
     let ls = c.deref-line-items.result.now in
-    the_report _ _ (answered c.if-book-gt-BOOK-LIMIT.false ls (subst (LinesOf c.args.book.now) (sym c.deref-line-items.ensures.value) c.in-ok-found.ensures.0)
+    the_report _ _ (answered c.if-book-gt-BOOK_LIMIT.false ls (subst (LinesOf c.args.book.now) (sym c.deref-line-items.ensures.value) c.in_ok-found.ensures.0)
     (subst (λ x. AllAnswered 1 x (string_bytes c.loop-i.report)) (take_all c.loop-i.i ls c.loop-i-test.false) c.loop-i.invariant))

@@ -8,7 +8,7 @@ use Rattle.kayles.specs.Stretches.{run_fits}
 use Rattle.book.specs.Reports.{lengths_text}
 use Rattle.book.proofs.Showing.{lengths_more, shown_none, shown_some}
 use Rattle.book.proofs.report.runs_shown.Goals as goal
-use Rattle.book.proofs.report.runs_shown.Goals.{In-Some, then-is-empty+in-ok-push-str-2, else-is-empty}
+use Rattle.book.proofs.report.runs_shown.Goals.{In-Some, then-is_empty+in_ok-push_str-2, else-is_empty}
 
 -- the next run lies on the board
 fits : (c : In-Some) → c.in-Some.run'.first + c.in-Some.run'.len ≤ 33
@@ -17,8 +17,8 @@ fits c = omega (arith, run_fits (row c.args.board) c.in-Some.run' c.in-Some.ensu
 pub loop-run-init : goal.loop-run-init
 loop-run-init c = ([], listed_none (row c.args.board), c.new-out.ensures.bytes)
 
-pub overflow-add-from : goal.overflow-add-from
-overflow-add-from c = omega (arith, fits (goal.at.overflow-add-from c).In-Some)
+pub overflow_add-from : goal.overflow_add-from
+overflow_add-from c = omega (arith, fits (goal.at.overflow_add-from c).In-Some)
 
 pub loop-run-preserved : goal.loop-run-preserved
 loop-run-preserved c =
@@ -26,8 +26,8 @@ loop-run-preserved c =
     let r = c.in-Some.run' in (
       rs ++ r ∷ [],
       listed_more (row c.args.board) c.loop-run.from rs r c.loop-run.invariant.1 c.in-Some.ensures,
-      pushed c.as-str.result.now c.loop-run.invariant.2 c.in-ok-push-str.was c.push-str.ensures.bytes
-          ∙ ap (λ y. lengths_text rs ++ y) (c.as-str.ensures.value ∙ c.in-ok-format.ensures.ok)
+      pushed c.as_str.result.now c.loop-run.invariant.2 c.in_ok-push_str.was c.push_str.ensures.bytes
+          ∙ ap (λ y. lengths_text rs ++ y) (c.as_str.ensures.value ∙ c.in_ok-format.ensures.ok)
           ∙ lengths_more rs r,
     )
 
@@ -42,14 +42,14 @@ returns c =
     let shown = c.loop-run.invariant.2 in
     let size = c.loop-run.out.bytes.ok.0 in (
       rs,
-      listed_all (row c.args.board) c.loop-run.from rs c.loop-run.invariant.1 c.in-default.ensures,
-      elim c.if-is-empty.branch [
-        | then-is-empty+in-ok-push-str-2 w ↦
+      listed_all (row c.args.board) c.loop-run.from rs c.loop-run.invariant.1 c.in_default.ensures,
+      elim c.if-is_empty.branch [
+        | then-is_empty+in_ok-push_str-2 w ↦
             ap string_bytes w.out-is
-            ∙ pushed (codes " none") shown w.in-ok-push-str-2.was w.push-str-then-is-empty.ensures.bytes
-            ∙ shown_none rs (ap length (sym shown) ∙ sym size ∙ true-eqb _ 0 w.if-is-empty.ensures)
-        | else-is-empty w ↦
+            ∙ pushed (codes " none") shown w.in_ok-push_str-2.was w.push_str-then-is_empty.ensures.bytes
+            ∙ shown_none rs (ap length (sym shown) ∙ sym size ∙ true-eqb _ 0 w.if-is_empty.ensures)
+        | else-is_empty w ↦
             ap string_bytes w.out-is ∙ shown
-            ∙ shown_some rs (λ e. false-eqb _ 0 w.if-is-empty.ensures (size ∙ ap length shown ∙ e))
+            ∙ shown_some rs (λ e. false-eqb _ 0 w.if-is_empty.ensures (size ∙ ap length shown ∙ e))
       ],
     )

@@ -8,28 +8,28 @@ use Rattle.kayles.proofs.tally.word_of.Goals as goal
 pub loop-rest-init : goal.loop-rest-init
 loop-rest-init c = (omega (arith, c.args.board.within, pow_mono {i = c.args.board.count} {j = 32} c.args.board.few), omega arith)
 
-pub overflow-shr-run : goal.overflow-shr-run
-overflow-shr-run c = (zeros_few 64 c.loop-rest.rest (omega (arith, c.loop-rest-test.true)) (omega (arith, c.loop-rest.invariant.0))).0
+pub overflow_shr-run : goal.overflow_shr-run
+overflow_shr-run c = (zeros_few 64 c.loop-rest.rest (omega (arith, c.loop-rest-test.true)) (omega (arith, c.loop-rest.invariant.0))).0
 
-pub with-run-word-requires : goal.with-run-word-requires
-with-run-word-requires c =
+pub with_run-word-requires : goal.with_run-word-requires
+with_run-word-requires c =
     let b = c.args.board in
     let m = c.loop-rest.rest in (
-      turn_len m _ c.loop-rest-test.true c.loop-rest.invariant.0 c.trailing-ones-len.ensures,
-      omega (arith, c.loop-rest.invariant.1, turn_word m _ c.loop-rest-test.true c.loop-rest.invariant.0 c.trailing-ones-len.ensures, board_word b, word_low (row b) (row_few b)),
+      turn_len m _ c.loop-rest-test.true c.loop-rest.invariant.0 c.trailing_ones-len.ensures,
+      omega (arith, c.loop-rest.invariant.1, turn_word m _ c.loop-rest-test.true c.loop-rest.invariant.0 c.trailing_ones-len.ensures, board_word b, word_low (row b) (row_few b)),
     )
 
-pub overflow-shr-rest : goal.overflow-shr-rest
-overflow-shr-rest c = omega (arith, turn_len c.loop-rest.rest _ c.loop-rest-test.true c.loop-rest.invariant.0 c.trailing-ones-len.ensures)
+pub overflow_shr-rest : goal.overflow_shr-rest
+overflow_shr-rest c = omega (arith, turn_len c.loop-rest.rest _ c.loop-rest-test.true c.loop-rest.invariant.0 c.trailing_ones-len.ensures)
 
 pub loop-rest-smaller : goal.loop-rest-smaller
-loop-rest-smaller c = turn_falls c.loop-rest.rest _ c.loop-rest-test.true c.loop-rest.invariant.0 c.trailing-ones-len.ensures
+loop-rest-smaller c = turn_falls c.loop-rest.rest _ c.loop-rest-test.true c.loop-rest.invariant.0 c.trailing_ones-len.ensures
 
 pub loop-rest-preserved : goal.loop-rest-preserved
 loop-rest-preserved c =
     let m = c.loop-rest.rest in (
-      omega (arith, c.loop-rest.invariant.0, turn_falls m _ c.loop-rest-test.true c.loop-rest.invariant.0 c.trailing-ones-len.ensures),
-      omega (arith, c.loop-rest.invariant.1, c.with-run-word.ensures, turn_word m _ c.loop-rest-test.true c.loop-rest.invariant.0 c.trailing-ones-len.ensures),
+      omega (arith, c.loop-rest.invariant.0, turn_falls m _ c.loop-rest-test.true c.loop-rest.invariant.0 c.trailing_ones-len.ensures),
+      omega (arith, c.loop-rest.invariant.1, c.with_run-word.ensures, turn_word m _ c.loop-rest-test.true c.loop-rest.invariant.0 c.trailing_ones-len.ensures),
     )
 
 pub returns : goal.returns

@@ -6,10 +6,10 @@ use Rattle.kayles.specs.Rebuilding.{board_is, same_position}
 use Rattle.kayles.proofs.Searching.{nth_none, nth_some}
 use Rattle.kayles.proofs.game.KaylesGame.after.Goals as goal
 
-pub returns-in-default : goal.returns-in-default
-returns-in-default c =
+pub returns-in_default : goal.returns-in_default
+returns-in_default c =
     let p = c.args.p.now in
-    let h = nth_none (knocks_of p) c.args.m (sym c.knock.ensures.listed ∙ c.in-default.is) in
+    let h = nth_none (knocks_of p) c.args.m (sym c.knock.ensures.listed ∙ c.in_default.is) in
     record { child = h; plays = (knocks_of p, listed (pins_of p), h) }
 
 pub returns : goal.returns
