@@ -1,5 +1,5 @@
 -- The text for the runs of a board.
-use Rattle.std.proofs.Common.{◌≡◌, ℕ, List, [], ◌∷◌, ◌++◌, length, codes, decimal, sym, refl, ap, ◌∙◌, arith}
+use Rattle.std.proofs.Common.{◌≡◌, List, [], ◌∷◌, ◌++◌, length, codes, decimal, refl, arith}
 use Rattle.std.proofs.lemmas.List.{flat_map_more}
 use Rattle.kayles.specs.declared.runs.Run.{Run}
 use Rattle.book.specs.Reports.{lengths_text, runs_text}

@@ -1,17 +1,17 @@
 -- A line has one verdict: passed over, accepted with one row, or refused with one fault.
-use Rattle.std.proofs.Common.{◌≡◌, ℕ, ◌+◌, ◌<◌, ◌≤◌, ◌⊎◌, List, [], ◌∷◌, ◌++◌, map, length, get_or, Ok, Err, sym, refl, ap, ◌∙◌, subst, ap₂, inl, inr, arith}
+use Rattle.std.proofs.Common.{◌≡◌, ℕ, ◌<◌, ◌≤◌, ◌⊎◌, List, ◌++◌, map, length, get_or, Ok, Err, sym, refl, ap, ◌∙◌, subst, inl, inr, arith}
 use lib.ListN.{length-map}
 use Rattle.std.proofs.lemmas.List.{append_cancel_left, append_cancel_right}
 use Rattle.std.proofs.str.Laws.{order}
 use Rattle.kayles.specs.declared.board.Pin.{Pin}
-use Rattle.kayles.specs.declared.board.Pin.TheVariants.{Standing, Down}
+use Rattle.kayles.specs.declared.board.Pin.TheVariants.{Down}
 use Rattle.kayles.specs.Rows.{row}
 use Rattle.book.specs.declared.fault.Fault.{Fault}
 use Rattle.book.specs.declared.fault.Fault.TheVariants.{Unclosed, NotAPin, TooManyPins, BookTooLong}
 use Rattle.book.specs.declared.reader.Item.TheVariants.{PassedOver, Board}
-use Rattle.book.specs.BoardLines.{Wrong, FirstWrong, NoClosing, Misprint, FirstFault, BoardLine, kayles_opening}
+use Rattle.book.specs.BoardLines.{Wrong, FirstWrong, FirstFault, BoardLine, kayles_opening}
 use Rattle.book.specs.Faults.{number}
-use Rattle.book.specs.Readings.{Reading, Passes, Accepts, Refuses, Faulted, Reads}
+use Rattle.book.specs.Readings.{Reading, Reads}
 use Rattle.book.specs.Tags.{Opened, Tagged, closing}
 use Rattle.book.specs.Letters.{letter}
 use Rattle.book.proofs.Spelling.{same_row, shown_at}

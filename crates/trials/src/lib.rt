@@ -125,11 +125,11 @@ mod tests {
         let Some((line, rest)) = first_line(b"a\r\r\n\nb") else {
             return Err(Fail::new("no first line"));
         };
-        assert!(rt; line.text == b"a\r" && rest == b"\nb");
+        assert!(rt; line.text == b"a\r".as_slice() && rest == b"\nb".as_slice());
         assert!(rt; matches!(line.ending, Ending::ReturnFeed));
         let found = lines(rt.alloc(), b"a\r\r\n\nb")?;
         assert!(rt; found.len() == 3);
-        assert!(rt; found[1].text.is_empty() && found[2].text == b"b");
+        assert!(rt; found[1].text.is_empty() && found[2].text == b"b".as_slice());
         assert!(rt; matches!(found[2].ending, Ending::End));
         Ok(())
     }

@@ -1,4 +1,4 @@
-use Rattle.std.proofs.Common.{ℕ, List, [], ◌∷◌, length, get_or, Some, None, sym, refl, ap, ◌∙◌, add-zero, arith, true-eqb, false-eqb}
+use Rattle.std.proofs.Common.{ℕ, List, [], ◌∷◌, get_or, Some, None, sym, refl, ap, ◌∙◌, add-zero, arith, true-eqb, false-eqb}
 use Rattle.std.proofs.lemmas.List.{nil_from_length}
 use Rattle.std.proofs.lemmas.Slice.Eq.{strip_suffix_is}
 use Rattle.book.specs.declared.line.Line.{Line}
@@ -15,7 +15,7 @@ cut c =
     let parts = c.split_at.ensures in
     record {
       whole = parts.by_index.0;
-      clean = λ k l e. c.feed_at.ensures.before k (omega (arith, parts.front-len)) (sym (parts.by_index.1 k 0 (omega (arith, parts.front-len))) ∙ e);
+      clean = λ k l e. c.feed_at.ensures.before k (omega (arith, parts.front_len)) (sym (parts.by_index.1 k 0 (omega (arith, parts.front_len))) ∙ e);
       feed = λ l. parts.by_index.2 0 0 ∙ ap (λ i. get_or c.args.book.now i 0) (add-zero c.feed_at.result) ∙ c.feed_at.ensures.here (omega (arith, parts.back_len));
       some = omega (arith, false-eqb _ 0 c.if-is_empty.ensures);
     }

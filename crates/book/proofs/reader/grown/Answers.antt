@@ -1,4 +1,4 @@
-use Rattle.std.proofs.Common.{length, sym, refl, ap, subst}
+use Rattle.std.proofs.Common.{length, sym, refl, subst}
 use Rattle.kayles.specs.Rows.{row}
 use Rattle.book.specs.BoardLines.{Wrong}
 use Rattle.book.specs.Steps.{Told, borrowed}

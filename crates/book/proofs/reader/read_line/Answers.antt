@@ -1,4 +1,4 @@
-use Rattle.std.proofs.Common.{List, ◌∷◌, ◌++◌, length, Some, None, sym, refl, ap, ◌∙◌, inl, inr}
+use Rattle.std.proofs.Common.{◌++◌, Some, None, sym, refl, ap, ◌∙◌, inl, inr}
 use Rattle.std.proofs.lemmas.Slice.Eq.{strip_prefix_is, strip_suffix_is}
 use Rattle.std.proofs.lemmas.List.{append_cancel_left}
 use Rattle.std.proofs.lemmas.Result.{err_from_is_err_and}
@@ -17,21 +17,21 @@ tagged c =
     ∙ ap (λ l. kayles_opening ++ l) (strip_suffix_is Decides-eqb c.in-Some.rest.now closing (Some c.in-Some-strip_suffix.text) c.in-Some-strip_suffix.ensures.cases)
 
 pub returns-in_default : goal.returns-in_default
-returns-in_default c = reads _ _ (λ o. strip_prefix_is c.args.line.now kayles_opening None c.in_default.ensures.cases o.0 o.1)
+returns-in_default c = reads _ _ (λ o. strip_prefix_is Decides-eqb c.args.line.now kayles_opening None c.in_default.ensures.cases o.0 o.1)
 
 pub returns-in_default-strip_suffix : goal.returns-in_default-strip_suffix
 returns-in_default-strip_suffix c =
     let head = strip_prefix_is Decides-eqb c.args.line.now kayles_opening (Some c.in-Some.rest) c.in-Some.ensures.cases in
     reads _ _ (inl (record {
       opened = (c.in-Some.rest.now, head);
-      unclosed = λ text t. strip_suffix_is c.in-Some.rest.now closing None c.in_default-strip_suffix.ensures.cases text (append_cancel_left kayles_opening _ _ (sym head ∙ t));
+      unclosed = λ text t. strip_suffix_is Decides-eqb c.in-Some.rest.now closing None c.in_default-strip_suffix.ensures.cases text (append_cancel_left kayles_opening _ _ (sym head ∙ t));
       fault = refl;
       place = refl;
     }))
 
 pub returns-in_err-read_board : goal.returns-in_err-read_board
 returns-in_err-read_board c =
-    let p = err_from_is_err_and c.from-residual.result c.from-residual.ensures.1 in
+    let p = err_from_is_err_and c.from_residual.result c.from_residual.ensures.1 in
     rw (p.1, p.2) (reads _ _ (inr (record {
       text = c.in-Some-strip_suffix.text.now;
       tagged = tagged (goal.at.returns-in_err-read_board c).In-Some-strip_suffix;

@@ -1,8 +1,6 @@
-use Rattle.std.proofs.Common.{◌≡◌, ℕ, List, Ok, string_bytes, sym, refl, ap, ◌∙◌, subst}
+use Rattle.std.proofs.Common.{Ok, string_bytes, sym, refl, subst}
 use Rattle.std.proofs.lemmas.Result.{IfOk-weaker}
-use Rattle.kayles.specs.declared.board.Board.{Board as KaylesBoard}
 use Rattle.kayles.specs.Rows.{row}
-use Rattle.book.specs.declared.reader.Item.TheVariants.{PassedOver, Board}
 use Rattle.book.specs.BoardLines.{BoardLine}
 use Rattle.book.specs.Readings.{Reads}
 use Rattle.book.specs.Reports.{Answered, passed, board, fault}

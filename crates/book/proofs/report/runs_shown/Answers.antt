@@ -1,6 +1,5 @@
-use Rattle.std.proofs.Common.{◌≡◌, ℕ, ◌+◌, ◌≤◌, List, [], ◌∷◌, ◌++◌, length, string_bytes, codes, sym, refl, ap, ◌∙◌, subst, arith, true-eqb, false-eqb}
+use Rattle.std.proofs.Common.{◌+◌, ◌≤◌, [], ◌∷◌, ◌++◌, length, string_bytes, codes, sym, ap, ◌∙◌, arith, true-eqb, false-eqb}
 use Rattle.std.proofs.lemmas.Slice.{pushed}
-use Rattle.kayles.specs.declared.runs.Run.{Run}
 use Rattle.kayles.specs.Rows.{row}
 use Rattle.kayles.specs.Listing.{listed_none, listed_more, listed_all}
 use Rattle.kayles.specs.Boards.{row_few}

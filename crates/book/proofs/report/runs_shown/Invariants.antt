@@ -1,4 +1,4 @@
-use Rattle.std.proofs.Common.{◌≡◌, ◌-◌, ◌≤◌, List, string_bytes}
+use Rattle.std.proofs.Common.{◌≡◌, ◌-◌, List, string_bytes}
 use Rattle.kayles.specs.declared.runs.Run.{Run}
 use Rattle.kayles.specs.Rows.{row}
 use Rattle.kayles.specs.Listing.{Listed}
