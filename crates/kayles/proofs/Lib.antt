@@ -1,4 +1,9 @@
+pub mod Listing
+pub mod Masks
 pub mod Sorting
+pub mod Stretches
+pub mod Numbering
+pub mod Tallying
 pub mod Taking
 pub mod Searching
 pub mod Naming

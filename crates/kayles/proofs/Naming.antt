@@ -10,12 +10,13 @@ use Rattle.kayles.specs.Boards.{row_few}
 use Rattle.kayles.specs.Kayles.{AsManyRuns, Describes, pins_of, set_of}
 use Rattle.kayles.specs.Limits.{most_pins}
 use Rattle.kayles.specs.Tallies.{HasRuns, all_runs, closed, how_many, named, place, radix, room, runs_from, unit}
-use Rattle.kayles.specs.Digits.{place_pos, sum_ext}
+use Rattle.kayles.specs.Laws.Digits.{place_pos, sum_ext}
 use Rattle.kayles.specs.Laws.{in_like, like}
 use Rattle.kayles.proofs.Sorting.{same_runs}
-use Rattle.kayles.specs.Splitting.{Same, counted, counted_long}
-use Rattle.kayles.specs.Tallying.{many_runs, runs_listed}
-use Rattle.kayles.specs.Words.{pins_are, word_pins, word_runs}
+use Rattle.kayles.specs.Laws.Splitting.{Same, counted, counted_long}
+use Rattle.kayles.specs.Laws.Counting.{many_runs}
+use Rattle.kayles.proofs.Tallying.{runs_listed}
+use Rattle.kayles.specs.Laws.Words.{pins_are, word_pins, word_runs}
 
 -- no run has no pins
 none_closed : (i n : ℕ) (rs : List Run) → how_many 0 rs ≡ 0 → how_many 0 (closed i n rs) ≡ 0

@@ -10,8 +10,8 @@ use Rattle.kayles.specs.Promises.{LeadsTo, RulesRight, SetsRight}
 use Rattle.kayles.specs.Rows.{Stands}
 use Rattle.kayles.specs.Laws.{game_laws}
 use Rattle.kayles.proofs.Naming.{described, has_many}
-use Rattle.kayles.specs.Numbering.{knock_up, leaves, listed}
-use Rattle.kayles.specs.Rebuilding.{board_is, pins_mask, same_position}
+use Rattle.kayles.proofs.Numbering.{knock_up, leaves, listed}
+use Rattle.kayles.specs.Laws.Rebuilding.{board_is, pins_mask, same_position}
 use Rattle.kayles.proofs.Sorting.{same_knocks}
 use Rattle.search.specs.Games.{Ended}
 

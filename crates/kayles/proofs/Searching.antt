@@ -7,8 +7,8 @@ use Rattle.kayles.specs.declared.board.Pin.{Pin}
 use Rattle.kayles.specs.declared.board.Pin.TheVariants.{Down}
 use Rattle.kayles.specs.declared.position.Knock.{Knock}
 use Rattle.kayles.specs.Play.{IsKnock, Numbered, Unnumbered, front, knocks, knocks_from, no_knock, offered, taking}
-use Rattle.kayles.specs.Numbering.{knock_up, listed, up_knock}
-use Rattle.kayles.specs.Splitting.{up_after}
+use Rattle.kayles.proofs.Numbering.{knock_up, listed, up_knock}
+use Rattle.kayles.specs.Laws.Splitting.{up_after}
 
 -- the moves from pin i on that take n pins or more there
 unfoldable pub later : ℕ → ℕ → List Pin → List Knock

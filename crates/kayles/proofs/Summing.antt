@@ -8,8 +8,8 @@ use Rattle.kayles.specs.declared.board.Pin.TheVariants.{Standing, Down}
 use Rattle.kayles.specs.declared.runs.Run.{Run}
 use Rattle.kayles.specs.Rows.{pin_of, pins, row}
 use Rattle.kayles.specs.Tallies.{all_runs, closed, runs_from, unit, word_of}
-use Rattle.kayles.specs.Masks.{pins_more}
-use Rattle.kayles.specs.Words.{word}
+use Rattle.kayles.proofs.Masks.{pins_more}
+use Rattle.kayles.specs.Laws.Words.{word}
 
 -- the word of a row, where r pins stand just before
 unfoldable pub summed : ℕ → List Pin → ℕ

@@ -12,9 +12,9 @@ use Rattle.kayles.specs.declared.position.Knock.{Knock}
 use Rattle.kayles.specs.Boards.{length-pins}
 use Rattle.kayles.specs.Play.{IsKnock, fallen, fallen_after, front, knocks, knocks_from, left_by, offered, taking}
 use Rattle.kayles.specs.Rows.{pin_of, pins, row, upright}
-use Rattle.kayles.specs.Masks.{upright_pins}
-use Rattle.kayles.specs.Numbering.{knock_up, up_knock}
-use Rattle.kayles.specs.Splitting.{up_after}
+use Rattle.kayles.proofs.Masks.{upright_pins}
+use Rattle.kayles.proofs.Numbering.{knock_up, up_knock}
+use Rattle.kayles.specs.Laws.Splitting.{up_after}
 
 -- ---- n pins from some place on stand where n bits of the mask are 1
 

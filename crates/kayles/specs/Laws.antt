@@ -1,4 +1,10 @@
 -- Kayles keeps the laws of games and of sets.
+pub mod Counting
+pub mod Digits
+pub mod Moves
+pub mod Rebuilding
+pub mod Splitting
+pub mod Words
 use Rattle.std.specs.Prelude.{◌≡◌, ℕ, zero, suc, ◌+◌, ◌-◌, ◌*◌, ◌%◌, ◌^◌, ◌<◌, ◌≤◌, min, Bool, true, false, cond, not, ◌&&◌, T, List, [], ◌∷◌, length, ◌==◌, slice_index_or, refl}
 use Rattle.std.proofs.Common.{sym, ap, ap₂, ◌∙◌, subst, subst₂, mod-eq_of_lt, arith}
 use Rattle.std.specs.Bool.{beq}
@@ -13,10 +19,10 @@ use Rattle.kayles.specs.Kayles.{kayles_rules, kayles_sets, knocks_of, pins_of, p
 use Rattle.kayles.specs.Limits.{most_pins}
 use Rattle.kayles.specs.Play.{fallen_after, front, knocks, knocks_from, left_by, no_knock, offered, taking}
 use Rattle.kayles.specs.Rows.{upright}
-use Rattle.kayles.specs.Numbering.{takes, taken}
-use Rattle.kayles.specs.Rebuilding.{pins_mask, same_board, same_position}
-use Rattle.kayles.specs.Splitting.{Same, counted, lower, matched, up_after, upright_le}
-use Rattle.kayles.specs.Words.{same_word, word, word_same}
+use Rattle.kayles.specs.Laws.Moves.{takes, taken}
+use Rattle.kayles.specs.Laws.Rebuilding.{pins_mask, same_board, same_position}
+use Rattle.kayles.specs.Laws.Splitting.{Same, counted, lower, matched, up_after, upright_le}
+use Rattle.kayles.specs.Laws.Words.{same_word, word, word_same}
 use Rattle.search.specs.Games.{GameLaws}
 use Rattle.search.specs.Sets.{In, SetLaws, cover_to}
 

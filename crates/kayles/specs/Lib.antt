@@ -7,12 +7,3 @@ pub mod Tallies
 pub mod Kayles
 pub mod Promises
 pub mod Laws
-pub mod Numbering
-pub mod Masks
-pub mod Splitting
-pub mod Stretches
-pub mod Rebuilding
-pub mod Words
-pub mod Digits
-pub mod Tallying
-pub mod Listing

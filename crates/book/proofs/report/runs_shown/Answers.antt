@@ -1,9 +1,9 @@
 use Rattle.std.proofs.Common.{◌+◌, ◌≤◌, [], ◌∷◌, ◌++◌, length, string_bytes, codes, sym, ap, ◌∙◌, arith, true-eqb, false-eqb}
 use Rattle.std.proofs.lemmas.Slice.{pushed}
 use Rattle.kayles.specs.Rows.{row}
-use Rattle.kayles.specs.Listing.{listed_none, listed_more, listed_all}
+use Rattle.kayles.proofs.Listing.{listed_none, listed_more, listed_all}
 use Rattle.kayles.specs.Boards.{row_few}
-use Rattle.kayles.specs.Stretches.{run_fits}
+use Rattle.kayles.proofs.Stretches.{run_fits}
 use Rattle.book.specs.Reports.{lengths_text}
 use Rattle.book.proofs.Showing.{lengths_more, shown_none, shown_some}
 use Rattle.book.proofs.report.runs_shown.Goals as goal

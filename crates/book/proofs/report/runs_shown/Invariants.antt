@@ -1,7 +1,7 @@
 use Rattle.std.proofs.Common.{◌≡◌, ◌-◌, List, string_bytes}
 use Rattle.kayles.specs.declared.runs.Run.{Run}
 use Rattle.kayles.specs.Rows.{row}
-use Rattle.kayles.specs.Listing.{Listed}
+use Rattle.kayles.proofs.Listing.{Listed}
 use Rattle.book.specs.Reports.{lengths_text}
 use Rattle.book.proofs.report.runs_shown.Given as goal
 

@@ -1,7 +1,7 @@
 use Rattle.std.proofs.Common.{◌≡◌, ℕ, ◌-◌, ◌*◌, ◌%◌, ◌^◌, ◌≤◌, ap, ◌∙◌, arith, pow_mono}
 use lib.Bits.{and_mask, bit_and}
 use Rattle.kayles.specs.Limits.{most_pins}
-use Rattle.kayles.specs.Rebuilding.{same_board}
+use Rattle.kayles.specs.Laws.Rebuilding.{same_board}
 use Rattle.kayles.proofs.game.fitted.Goals as goal
 
 shifted : (n : ℕ) → n ≤ most_pins → (1 * 2 ^ n) % 18446744073709551616 ≡ 2 ^ n

@@ -2,7 +2,7 @@ use Rattle.std.proofs.Common.{ap, arith, pow_mono}
 use Rattle.kayles.specs.Boards.{row_few}
 use Rattle.kayles.specs.Rows.{row}
 use Rattle.kayles.proofs.Summing.{board_word, mask_word, none, turn_falls, turn_len, turn_word, zeros_few}
-use Rattle.kayles.specs.Words.{word_low}
+use Rattle.kayles.specs.Laws.Words.{word_low}
 use Rattle.kayles.proofs.tally.word_of.Goals as goal
 
 pub loop-rest-init : goal.loop-rest-init

@@ -2,7 +2,7 @@ use mathlib.Core.Bool.{false≢true}
 use Rattle.std.proofs.Common.{◌+◌, sym, ◌∙◌, subst, arith}
 use Rattle.kayles.specs.Rows.{row}
 use Rattle.kayles.specs.Boards.{length-pins}
-use Rattle.kayles.specs.Stretches.{Walked, walked_none, walked_up, some_run, none_run, last_run}
+use Rattle.kayles.proofs.Stretches.{Walked, walked_none, walked_up, some_run, none_run, last_run}
 use Rattle.kayles.proofs.board.Board.next_run.Goals as goal
 use Rattle.kayles.proofs.board.Board.next_run.Goals.{then-stands, else-stands+else-is_some}
 

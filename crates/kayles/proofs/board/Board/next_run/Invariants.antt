@@ -1,5 +1,5 @@
 use Rattle.kayles.specs.Rows.{row}
-use Rattle.kayles.specs.Stretches.{Walked}
+use Rattle.kayles.proofs.Stretches.{Walked}
 use Rattle.kayles.proofs.board.Board.next_run.Given as goal
 
 abbrev pub invariant-loop-passed : goal.invariant-loop-passed

@@ -1,5 +1,5 @@
 use Rattle.std.proofs.Common.{sym}
-use Rattle.kayles.specs.Masks.{upright_pins}
+use Rattle.kayles.proofs.Masks.{upright_pins}
 use Rattle.kayles.proofs.board.Board.standing.Goals as goal
 
 pub returns : goal.returns

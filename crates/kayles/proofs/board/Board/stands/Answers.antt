@@ -2,7 +2,7 @@ use mathlib.Core.Bool.{false≢true}
 use Rattle.std.proofs.Common.{subst, ⊎_elim, arith}
 use Rattle.kayles.specs.Rows.{Stands, pins}
 use Rattle.kayles.specs.Boards.{length-pins}
-use Rattle.kayles.specs.Stretches.{no_pin_0, none_past, bit_stands, stands_bit}
+use Rattle.kayles.proofs.Stretches.{no_pin_0, none_past, bit_stands, stands_bit}
 use Rattle.kayles.proofs.board.Board.stands.Goals as goal
 
 pub returns-then-pin-eq0 : goal.returns-then-pin-eq0

@@ -1,7 +1,7 @@
 use Rattle.std.proofs.Common.{◌≡◌, suc, ◌+◌, ◌*◌, ◌%◌, ◌^◌, ◌<◌, ap, ◌∙◌, add-one, arith, pow_mono}
 use Rattle.kayles.specs.Rows.{bit, pins}
 use Rattle.kayles.specs.Boards.{length-pins}
-use Rattle.kayles.specs.Masks.{pins_more, shifted, mask_more}
+use Rattle.kayles.proofs.Masks.{pins_more, shifted, mask_more}
 use Rattle.kayles.proofs.board.Board.with.Goals as goal
 use Rattle.kayles.proofs.board.Board.with.Goals.{After-bit_of}
 

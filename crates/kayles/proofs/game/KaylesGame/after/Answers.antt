@@ -1,8 +1,8 @@
 use Rattle.std.proofs.Common.{sym, refl, ap, ◌∙◌, subst}
 use Rattle.kayles.specs.Kayles.{knocks_of, left_few, pins_of, played}
 use Rattle.kayles.specs.Play.{IsKnock, Leaves, left_by}
-use Rattle.kayles.specs.Numbering.{knock_up, leaves, listed}
-use Rattle.kayles.specs.Rebuilding.{board_is, same_position}
+use Rattle.kayles.proofs.Numbering.{knock_up, leaves, listed}
+use Rattle.kayles.specs.Laws.Rebuilding.{board_is, same_position}
 use Rattle.kayles.proofs.Searching.{nth_none, nth_some}
 use Rattle.kayles.proofs.game.KaylesGame.after.Goals as goal
 

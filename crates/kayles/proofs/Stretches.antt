@@ -10,7 +10,7 @@ use Rattle.kayles.specs.declared.board.Pin.TheVariants.{Standing, Down}
 use Rattle.kayles.specs.declared.runs.Run.{Run}
 use Rattle.kayles.specs.Rows.{Stands, pins}
 use Rattle.kayles.specs.Runs.{IsRun, FirstRun, NoRun}
-use Rattle.kayles.specs.Masks.{pin_at, up_pin, pin_up, down_up}
+use Rattle.kayles.proofs.Masks.{pin_at, up_pin, pin_up, down_up}
 
 pub no_pin_0 : (ps : List Pin) → Stands ps 0 → ⊥
 no_pin_0 ps e = down_up e

@@ -9,9 +9,9 @@ use Rattle.kayles.specs.declared.runs.Run.{Run}
 use Rattle.kayles.specs.Limits.{most_pins}
 use Rattle.kayles.specs.Rows.{upright}
 use Rattle.kayles.specs.Tallies.{all_runs, closed, how_many, place, radix, room, runs_from, sum_to, unit, word_of}
-use Rattle.kayles.specs.Digits.{Small, digit_at, digits, digits_lt, sum_add, sum_ext, sum_one, sum_zero}
-use Rattle.kayles.specs.Splitting.{Same, counted, counted_long, counted_room, one, upright_le}
-use Rattle.kayles.specs.Tallying.{many_runs, together, together_runs}
+use Rattle.kayles.specs.Laws.Digits.{Small, digit_at, digits, digits_lt, sum_add, sum_ext, sum_one, sum_zero}
+use Rattle.kayles.specs.Laws.Splitting.{Same, counted, counted_long, counted_room, one, upright_le}
+use Rattle.kayles.specs.Laws.Counting.{many_runs, together, together_runs}
 
 -- the runs have from 1 to n pins
 abbrev Lens : ℕ → List Run → Type 0

@@ -7,7 +7,7 @@ use native.Mathlib.Omega.{arith}
 use Rattle.std.proofs.Math.Arith.{digits_div}
 use Rattle.std.proofs.lemmas.Bool.{cases_lt}
 use Rattle.kayles.specs.Tallies.{place, radix, sum_to}
-use Rattle.kayles.specs.Splitting.{one, one_off, one_self}
+use Rattle.kayles.specs.Laws.Splitting.{one, one_off, one_self}
 
 -- the number with the digits f 1, f 2, .. f n, the lowest first
 abbrev pub digits : (ℕ → ℕ) → ℕ → ℕ

@@ -7,9 +7,10 @@ use Rattle.kayles.specs.declared.board.Pin.TheVariants.{Standing, Down}
 use Rattle.kayles.specs.declared.position.Knock.{Knock}
 use Rattle.kayles.specs.Play.{Earlier, Hits, IsKnock, KnocksOf, Leaves, fallen, fallen_after, front, knocks, knocks_from, left_by, length-left, no_knock, offered, taking}
 use Rattle.kayles.specs.Rows.{Stands}
-use Rattle.kayles.specs.Masks.{down_up}
-use Rattle.kayles.specs.Splitting.{up_after}
-use Rattle.kayles.specs.Stretches.{no_pin_0}
+use Rattle.kayles.proofs.Masks.{down_up}
+use Rattle.kayles.specs.Laws.Moves.{Has, offered_each, taken, takes}
+use Rattle.kayles.specs.Laws.Splitting.{up_after}
+use Rattle.kayles.proofs.Stretches.{no_pin_0}
 
 -- ---- pins that stand one after the other
 
@@ -60,39 +61,6 @@ up_knock ps i n a b t = record { some = a; few = b; stand = λ k h. up_stands i 
 
 -- ---- the list
 
--- k is the move that takes one or two pins after the first j of ps, which begins with pin i
-abbrev Takes : ℕ → List Pin → Knock → Type 0
-Takes i ps k = (j : ℕ) × (c : ℕ) × (c < 2) × (k ≡ taking (i + j) (suc c)) × T (up_after j (suc c) ps)
-
-abbrev pub Has : List Knock → Knock → Type 0
-Has ks k = (m : ℕ) × (m < length ks) × (slice_index_or ks m no_knock ≡ k)
-
--- what holds of an offered move, if it is one, and of all the others holds of each
-offered_each : (P : Knock → Type 0) (i n : ℕ) (ps : List Pin) (ks : List Knock) → (T (front n ps) → P (taking i n)) → ((m : ℕ) → m < length ks → P (slice_index_or ks m no_knock)) → (m : ℕ) → m < length (offered i n ps ks) → P (slice_index_or (offered i n ps ks) m no_knock)
-unfolding offered
-offered_each P i n ps ks h g = go (front n ps) h
-  where
-    go : (c : Bool) → (T c → P (taking i n)) → (m : ℕ) → m < length (cond c (taking i n ∷ ks) ks) → P (slice_index_or (cond c (taking i n ∷ ks) ks) m no_knock)
-    go true h zero l = h tt
-    go true h (suc m) l = g m (omega arith)
-    go false h m l = g m l
-
-offered_here : (i n : ℕ) (ps : List Pin) (ks : List Knock) → T (front n ps) → Has (offered i n ps ks) (taking i n)
-unfolding offered
-offered_here i n ps ks t = go (front n ps) t
-  where
-    go : (c : Bool) → T c → Has (cond c (taking i n ∷ ks) ks) (taking i n)
-    go true t = (0, omega arith, refl)
-    go false t = absurd t
-
-offered_keeps : (i n : ℕ) (ps : List Pin) (ks : List Knock) (k : Knock) → Has ks k → Has (offered i n ps ks) k
-unfolding offered
-offered_keeps i n ps ks k h = go (front n ps)
-  where
-    go : (c : Bool) → Has (cond c (taking i n ∷ ks) ks) k
-    go true = (suc h.0, omega (arith, h.1), h.2)
-    go false = h
-
 abbrev Sorted : List Knock → Type 0
 Sorted ks = (j m : ℕ) → j < m → m < length ks → Earlier (slice_index_or ks j no_knock) (slice_index_or ks m no_knock)
 
@@ -106,29 +74,6 @@ offered_sorted i n ps ks h s = go (front n ps)
     go true (suc j) zero a b = absurd (omega arith)
     go true (suc j) (suc m) a b = s j m (omega arith) (omega arith)
     go false j m a b = s j m a b
-
-pub takes : (i : ℕ) (ps : List Pin) (m : ℕ) → m < length (knocks_from i ps) → Takes i ps (slice_index_or (knocks_from i ps) m no_knock)
-unfolding knocks_from up_after
-takes i [] m h = absurd (omega arith)
-takes i (p ∷ ps) m h =
-    offered_each (Takes i (p ∷ ps)) i 1 (p ∷ ps) (offered i 2 (p ∷ ps) (knocks_from (suc i) ps)) (λ t. (0, 0, omega arith, ap (λ k. taking k 1) (let e : i ≡ i + 0 = omega arith in e), t))
-    (offered_each (Takes i (p ∷ ps)) i 2 (p ∷ ps) (knocks_from (suc i) ps) (λ t. (0, 1, omega arith, ap (λ k. taking k 2) (let e : i ≡ i + 0 = omega arith in e), t))
-    (λ m h. let s = takes (suc i) ps m h in (suc s.0, s.1, s.2, s.3 ∙ ap (λ k. taking k (suc s.1)) (let e : suc i + s.0 ≡ i + suc s.0 = omega arith in e), s.4)))
-    m h
-
-pub taken : (i j c : ℕ) (ps : List Pin) → c < 2 → T (up_after j (suc c) ps) → Has (knocks_from i ps) (taking (i + j) (suc c))
-unfolding knocks_from up_after front
-taken i zero c [] h t = absurd t
-taken i (suc j) c [] h t = absurd t
-taken i zero zero (p ∷ ps) h t =
-    subst (Has (knocks_from i (p ∷ ps))) (ap (λ k. taking k 1) (let e : i ≡ i + 0 = omega arith in e)) (offered_here i 1 (p ∷ ps) (offered i 2 (p ∷ ps) (knocks_from (suc i) ps)) t)
-taken i zero (suc zero) (p ∷ ps) h t =
-    subst (Has (knocks_from i (p ∷ ps))) (ap (λ k. taking k 2) (let e : i ≡ i + 0 = omega arith in e))
-    (offered_keeps i 1 (p ∷ ps) (offered i 2 (p ∷ ps) (knocks_from (suc i) ps)) (taking i 2) (offered_here i 2 (p ∷ ps) (knocks_from (suc i) ps) t))
-taken i zero (suc (suc c)) (p ∷ ps) h t = absurd (omega arith)
-taken i (suc j) c (p ∷ ps) h t =
-    subst (Has (knocks_from i (p ∷ ps))) (ap (λ k. taking k (suc c)) (let e : suc i + j ≡ i + suc j = omega arith in e))
-    (offered_keeps i 1 (p ∷ ps) (offered i 2 (p ∷ ps) (knocks_from (suc i) ps)) (taking (suc i + j) (suc c)) (offered_keeps i 2 (p ∷ ps) (knocks_from (suc i) ps) (taking (suc i + j) (suc c)) (taken (suc i) j c ps h t)))
 
 -- the moves behind pin i come later than those that begin with it
 later : (i n : ℕ) (ps : List Pin) (m : ℕ) → m < length (knocks_from (suc i) ps) → Earlier (taking i n) (slice_index_or (knocks_from (suc i) ps) m no_knock)

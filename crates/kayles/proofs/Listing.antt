@@ -6,7 +6,7 @@ use Rattle.std.proofs.lemmas.Bool.{cases_lt}
 use Rattle.kayles.specs.declared.board.Pin.{Pin}
 use Rattle.kayles.specs.declared.runs.Run.{Run}
 use Rattle.kayles.specs.Runs.{IsRun, FirstRun, NoRun, RunsOf, no_run}
-use Rattle.kayles.specs.Stretches.{same_run, no_pin_0}
+use Rattle.kayles.proofs.Stretches.{same_run, no_pin_0}
 
 -- rs lists the runs that begin before pin `from`
 pub record Listed (ps : List Pin) (from : ℕ) (rs : List Run) : Type 0 where
