@@ -112,7 +112,7 @@ pair_bit n m h = go (front 2 (pins n m)) refl
   where
     go : (c : Bool) → front 2 (pins n m) ≡ c → cond c 1 0 ≡ min (m % 2) (m / 2 % 2)
     go true e = omega (arith, low_bits m 1, front_bits 2 n m h (subst T (sym e) tt))
-    go false e = let no-three : m % 2 ^ 2 ≡ 2 ^ 2 - 1 → ⊥ = λ f. subst T e (bits_front 2 n m h f) in omega (arith, low_bits m 1)
+    go false e = let no_three : m % 2 ^ 2 ≡ 2 ^ 2 - 1 → ⊥ = λ f. subst T e (bits_front 2 n m h f) in omega (arith, low_bits m 1)
 
 couples_pins : (n m : ℕ) → m < 2 ^ n → couples (pins n m) ≡ ones (bit_and m (m / 2))
 unfolding pins couples ones
