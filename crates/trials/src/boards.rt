@@ -1,4 +1,4 @@
-// Kayles through the game's interface, beside a minimax that shares nothing with it.
+// Kayles through the game's interface, beside a minimax that shares no code with it.
 use kayles::{Board, Kayles, Knock, Pin, Position, RunSet};
 use search::Game;
 use std::alloc::{AllocError, Global};
@@ -9,30 +9,23 @@ const PINS: u8 = 8;
 
 // The board of so many pins, of which those stand whose bit is 1.
 fn board(pins: u8, standing: u32) -> Option<Board> {
-    let mut board = Board::empty();
-    let mut rest = standing;
-    for _ in 0..pins {
-        let pin = if rest % 2 == 1 {
+    (0..pins).try_fold(Board::empty(), |board, i| {
+        board.with(if standing.checked_shr(u32::from(i))? & 1 == 1 {
             Pin::Standing
         } else {
             Pin::Down
-        };
-        board = board.with(pin)?;
-        rest /= 2;
-    }
-    Some(board)
+        })
+    })
 }
 
 // The separate minimax: the first move that leaves the other player without a win, if there is one. `wins` says of each
 // row with fewer standing pins whether its mover wins.
-fn winning_move(standing: u32, wins: &[bool]) -> Option<(u8, u8)> {
+fn winning_move(standing: u32, wins: &[bool]) -> Option<Knock> {
     for at in 0..PINS {
         for (pins, mask) in [(1, 1u32), (2, 3u32)] {
             let taken = mask << at;
-            if standing & taken == taken
-                && matches!(wins.get((standing ^ taken) as usize), Some(false))
-            {
-                return Some((at + 1, pins));
+            if standing & taken == taken && wins.get((standing ^ taken) as usize) == Some(&false) {
+                return Some(Knock { pin: at + 1, pins });
             }
         }
     }
@@ -49,32 +42,42 @@ fn all_wins(heap: Global) -> Result<Vec<bool>, AllocError> {
     Ok(wins)
 }
 
+// What a row is worth, by the side to move.
+#[derive(Clone, Copy)]
+struct Worths {
+    counting: u8,
+    other: u8,
+}
+
+impl Worths {
+    fn of(self, p: &Position) -> u8 {
+        if Kayles::counting(p) {
+            self.counting
+        } else {
+            self.other
+        }
+    }
+}
+
 // What a position is worth by plain minimax over the game's interface, and its first move to reach that. `known` says what
-// the rows with fewer standing pins are worth when the other of the two sides is to move.
-fn solved(p: &Position, known: &[u8]) -> Option<(u8, Option<Knock>)> {
+// the rows with fewer standing pins are worth.
+fn solved(p: &Position, known: &[Worths]) -> Option<(u8, Option<Knock>)> {
     let mut best = None;
     for m in 0..Kayles::moves(p) {
         let child = Kayles::after(p, m)?;
         let at = Kayles::row(&child.position)[1];
-        let worth = known.get(at as usize)?.checked_add(child.gain)?;
-        let better = match best {
-            None => true,
-            Some((most, _)) => {
-                if Kayles::counting(p) {
-                    worth > most
-                } else {
-                    worth < most
-                }
-            }
-        };
+        let after = known.get(at as usize)?.of(&child.position);
+        let worth = after.checked_add(child.gain)?;
+        let better = best.is_none_or(|(most, _)| if Kayles::counting(p) {
+            worth > most
+        } else {
+            worth < most
+        });
         if better {
             best = Some((worth, Some(child.played)));
         }
     }
-    match best {
-        None => Some((Kayles::score(p), None)),
-        found => found,
-    }
+    best.or(Some((Kayles::score(p), None)))
 }
 
 // The two agree on a position: who wins, and by which move first.
@@ -83,14 +86,9 @@ fn agree(p: &Position, found: (u8, Option<Knock>), wins: &[bool]) -> bool {
     let standing = Kayles::row(p)[1];
     let winning = winning_move((standing % 256) as u32, wins);
     let won = winning.is_some();
-    if worth > Kayles::top(p) || won != (Kayles::counting(p) == (worth == 1)) {
-        return false;
-    }
-    match (winning, played) {
-        (Some((pin, pins)), Some(knock)) => pin == knock.pin && pins == knock.pins,
-        (Some(_), None) => false,
-        _ => true,
-    }
+    worth <= Kayles::top(p)
+        && won == (Kayles::counting(p) == (worth == 1))
+        && (!won || winning == played)
 }
 
 // Every board of up to 8 pins, with either side to move.
@@ -99,12 +97,9 @@ fn boards_beside_another_minimax(rt: HostRuntime) -> Result<(), Fail> {
     let heap = rt.alloc();
     let wins = all_wins(heap)?;
     for pins in 0..PINS + 1 {
-        let mut counting = Vec::new(heap);
-        let mut other = Vec::new(heap);
+        let mut known = Vec::new(heap);
         for standing in 0..1u32 << pins {
-            let Some(board) = board(pins, standing) else {
-                return Err(Fail::new("no board"));
-            };
+            let board = board(pins, standing).ok_or("no board")?;
             let here = Position {
                 board,
                 counting: true,
@@ -113,12 +108,14 @@ fn boards_beside_another_minimax(rt: HostRuntime) -> Result<(), Fail> {
                 board,
                 counting: false,
             };
-            let one = solved(&here, other.as_slice()).ok_or("no answer")?;
-            let two = solved(&there, counting.as_slice()).ok_or("no answer")?;
+            let one = solved(&here, known.as_slice()).ok_or("no answer")?;
+            let two = solved(&there, known.as_slice()).ok_or("no answer")?;
             assert!(rt; agree(&here, one, wins.as_slice()));
             assert!(rt; agree(&there, two, wins.as_slice()));
-            counting.push(one.0)?;
-            other.push(two.0)?;
+            known.push(Worths {
+                counting: one.0,
+                other: two.0,
+            })?;
         }
     }
     Ok(())
@@ -173,14 +170,9 @@ fn sets_of_long_boards(rt: HostRuntime) {
 #[test]
 fn moves_of_a_board(rt: HostRuntime) -> Result<(), Fail> {
     // X.XX: pin 1, pin 3, pins 3 and 4, pin 4
-    let Some(board) = board(4, 0b1101) else {
-        return Err(Fail::new("no board"));
-    };
+    let board = board(4, 0b1101).ok_or("no board")?;
     for (number, pin, pins) in [(0, 1, 1), (1, 3, 1), (2, 3, 2), (3, 4, 1)] {
-        let Some(knock) = board.knock(number) else {
-            return Err(Fail::new("no move"));
-        };
-        assert_eq!(rt; (knock.pin, knock.pins), (pin, pins));
+        assert!(rt; board.knock(number) == Some(Knock { pin, pins }));
     }
     assert!(rt; board.knock(4).is_none() && board.knock(255).is_none());
     Ok(())
