@@ -91,6 +91,16 @@ fn agree(p: &Position, found: (u8, Option<Knock>), wins: &[bool]) -> bool {
         && (!won || winning == played)
 }
 
+// What a board is worth with the one side to move or the other, if the two agree on it.
+fn agreed(board: Board, counting: bool, known: &[Worths], wins: &[bool]) -> Result<u8, Fail> {
+    let p = Position { board, counting };
+    let found = solved(&p, known).ok_or("no answer")?;
+    if !agree(&p, found, wins) {
+        return Err(Fail::new("another answer"));
+    }
+    Ok(found.0)
+}
+
 // Every board of up to 8 pins, with either side to move.
 #[test]
 fn boards_beside_another_minimax(rt: HostRuntime) -> Result<(), Fail> {
@@ -100,22 +110,9 @@ fn boards_beside_another_minimax(rt: HostRuntime) -> Result<(), Fail> {
         let mut known = Vec::new(heap);
         for standing in 0..1u32 << pins {
             let board = board(pins, standing).ok_or("no board")?;
-            let here = Position {
-                board,
-                counting: true,
-            };
-            let there = Position {
-                board,
-                counting: false,
-            };
-            let one = solved(&here, known.as_slice()).ok_or("no answer")?;
-            let two = solved(&there, known.as_slice()).ok_or("no answer")?;
-            assert!(rt; agree(&here, one, wins.as_slice()));
-            assert!(rt; agree(&there, two, wins.as_slice()));
-            known.push(Worths {
-                counting: one.0,
-                other: two.0,
-            })?;
+            let counting = agreed(board, true, known.as_slice(), wins.as_slice())?;
+            let other = agreed(board, false, known.as_slice(), wins.as_slice())?;
+            known.push(Worths { counting, other })?;
         }
     }
     Ok(())
