@@ -1,13 +1,11 @@
 -- Every visit and every list of calls can be made and ends. Over the table that holds nothing a visit is the bare search.
-use Rattle.std.proofs.Common.{◌≡◌, ℕ, zero, suc, ◌+◌, ◌<◌, Bool, true, false, not, List, [], ◌∷◌, Some, None, Option, sym, refl, subst, subst₂, inl, inr, arith}
+use Rattle.std.proofs.Common.{◌≡◌, ℕ, zero, suc, ◌+◌, ◌<◌, Bool, true, false, not, List, [], ◌∷◌, Some, None, Option, Err, sym, refl, subst, subst₂, inl, inr, arith}
 use mathlib.Core.Bool.{beq}
 use Rattle.search.specs.declared.call.Call.{Call}
 use Rattle.search.specs.declared.call.Call.TheVariants.{Query, Solve, Best, Wipe}
-use Rattle.search.specs.declared.call.Reply.{Reply}
-use Rattle.search.specs.declared.call.Reply.TheVariants.{Refused}
 use Rattle.search.specs.declared.entry.Entry.{Entry}
 use Rattle.search.specs.Bare.{Bare, bare, bare_visits, nothing_held}
-use Rattle.search.specs.Calls.{Accepted, Calls, Choosing, Does, Solving, chosen, done, first_no, go_on, later_one, next, past_top, queried, refused, solved, this_one, wiped}
+use Rattle.search.specs.Calls.{Accepted, Calls, Choosing, Does, Outcome, Solving, chosen, done, first_no, go_on, later_one, next, past_top, queried, refused, solved, this_one, wiped}
 use Rattle.search.specs.Entries.{offer}
 use Rattle.search.specs.Games.{GameLaws, Legal, Live, Rules}
 use Rattle.search.specs.Minimax.{comes_to, worth}
@@ -97,10 +95,10 @@ module _ {P S : Type 0} (R : Rules P) (Z : Sets P S) (L : GameLaws R) {X : Type 
             let r = more (missed_more R Z L K p w i e f o.answer) o.kept in
             (_, _, _, later_one legal u r.3)
 
-    call_ends : (c : Call P) (x : X) → AllTrue R Z D x → (r : Reply) × (y : X) × Does R Z D c x r y
-    call_ends c x t = elim (refused_or_not R c) [ inl a ↦ accepted_ends c a | inr e ↦ (Refused e.0, x, refused e.1) ]
+    call_ends : (c : Call P) (x : X) → AllTrue R Z D x → (r : Outcome) × (y : X) × Does R Z D c x r y
+    call_ends c x t = elim (refused_or_not R c) [ inl a ↦ accepted_ends c a | inr e ↦ (Err e.0, x, refused e.1) ]
       where
-        accepted_ends : (c : Call P) → Accepted R c → (r : Reply) × (y : X) × Does R Z D c x r y
+        accepted_ends : (c : Call P) → Accepted R c → (r : Outcome) × (y : X) × Does R Z D c x r y
         accepted_ends (Query p b cells) a = let v = visit_ends p b x in (_, _, queried a v.4)
         accepted_ends (Solve p cells) a = let v = solving_ends (R.top p) p 1 x (omega arith) in (_, _, solved a v.3)
         accepted_ends (Best p cells) a =
@@ -110,14 +108,14 @@ module _ {P S : Type 0} (R : Rules P) (Z : Sets P S) (L : GameLaws R) {X : Type 
             (_, _, chosen a v.3 w.3)
         accepted_ends Wipe a = let w = E.wiped x in (_, _, wiped w.1)
 
-    calls_end : (cs : List (Call P)) (x : X) → AllTrue R Z D x → (rs : List Reply) × (z : X) × Calls R Z D x cs rs z
+    calls_end : (cs : List (Call P)) (x : X) → AllTrue R Z D x → (rs : List Outcome) × (z : X) × Calls R Z D x cs rs z
     calls_end [] x t = (_, _, done)
     calls_end (c ∷ cs) x t =
         let d = call_ends c x t in
         let k = calls_end cs d.1 (call_kept R Z L K D E d.2 t).true_after in
         (_, _, next d.2 k.2)
 
-    pub session_ends : (x : X) (cs : List (Call P)) → (y : X) × (rs : List Reply) × (z : X) × D.wipes x y × Calls R Z D y cs rs z
+    pub session_ends : (x : X) (cs : List (Call P)) → (y : X) × (rs : List Outcome) × (z : X) × D.wipes x y × Calls R Z D y cs rs z
     session_ends x cs =
         let w = E.wiped x in
         let k = calls_end cs w.0 (λ e h. absurd (E.wipe_clears x w.0 w.1 e h)) in

@@ -1,5 +1,5 @@
 -- Every list of calls keeps what is promised.
-use Rattle.std.proofs.Common.{◌≡◌, ℕ, zero, suc, ◌+◌, ◌-◌, ◌<◌, ◌≤◌, min, Bool, true, false, cond, not, T, eqb, ltb, ◌⊎◌, List, Some, None, Option, sym, refl, ap, ◌∙◌, subst, subst₂, inl, inr, arith, eqb→eq, ltb→lt, nltb→le}
+use Rattle.std.proofs.Common.{◌≡◌, ℕ, zero, suc, ◌+◌, ◌-◌, ◌<◌, ◌≤◌, min, Bool, true, false, cond, not, T, eqb, ltb, ◌⊎◌, List, Some, None, Option, Ok, Err, sym, refl, ap, ◌∙◌, subst, subst₂, inl, inr, arith, eqb→eq, ltb→lt, nltb→le}
 use mathlib.Core.Bool.{false≢true}
 use native.Mathlib.Decide.{dec_lt}
 use Rattle.search.specs.declared.call.Answer.{Answer}
@@ -7,10 +7,9 @@ use Rattle.search.specs.declared.call.Call.{Call}
 use Rattle.search.specs.declared.call.Call.TheVariants.{Query, Solve, Best, Wipe}
 use Rattle.search.specs.declared.call.CallError.{CallError}
 use Rattle.search.specs.declared.call.CallError.TheVariants.{ShortTrail, GameOver}
-use Rattle.search.specs.declared.call.Reply.{Reply}
-use Rattle.search.specs.declared.call.Reply.TheVariants.{Refused, Answered}
+use Rattle.search.specs.declared.call.Reply.TheVariants.{Answered}
 use Rattle.search.specs.Bare.{bare_after, bare_from, bare_visits}
-use Rattle.search.specs.Calls.{Accepted, Calls, Choosing, Does, Solving, UnaidedChoosing, UnaidedSolving, chosen, done, first_no, go_on, later_one, next, number, past_top, queried, refusal, refused, solved, this_one, wiped}
+use Rattle.search.specs.Calls.{Accepted, Calls, Choosing, Does, Outcome, Solving, UnaidedChoosing, UnaidedSolving, chosen, done, first_no, go_on, later_one, next, number, past_top, queried, refusal, refused, solved, this_one, wiped}
 use Rattle.search.specs.Games.{GameLaws, Legal, Live, Rules}
 use Rattle.search.specs.Minimax.{IsMove, Says, comes_to, move, worth}
 use Rattle.search.specs.Promises.{CallKept, EachKept, InTurn, Right, SessionKept, Thrifty, answers, best_over, best_short, chooses, first_two, later_two, query_short, solve_short, solves, wipes}
@@ -86,7 +85,7 @@ module _ {P S : Type 0} (R : Rules P) (Z : Sets P S) (L : GameLaws R) (K : SetLa
   ]
 
   module _ {X : Type 0} (D : Memory P S X) (E : MemoryLaws Z D) where
-    refusal_right : (c : Call P) (e : CallError) → refusal R c ≡ Some e → Right R Z D c (Refused e)
+    refusal_right : (c : Call P) (e : CallError) → refusal R c ≡ Some e → Right R Z D c (Err e)
     refusal_right (Query p b cells) e h = elim (short_by (ltb cells (R.height p)) false e h) [
       | inl d ↦ query_short (below cells (R.height p) d.0) d.1
       | inr d ↦ absurd (false≢true d.1)
@@ -183,7 +182,7 @@ module _ {P S : Type 0} (R : Rules P) (Z : Sets P S) (L : GameLaws R) (K : SetLa
     no_wipe : {c : Call P} {y : X} → (c ≡ Wipe → ◌≡◌ {A = ℕ} 0 1) → c ≡ Wipe → Blank D y
     no_wipe f e = absurd (let z = f e in omega arith)
 
-    pub call_kept : {c : Call P} {x : X} {r : Reply} {y : X} → (d : Does R Z D c x r y) → AllTrue R Z D x → CallKept R Z D c x r y d
+    pub call_kept : {c : Call P} {x : X} {r : Outcome} {y : X} → (d : Does R Z D c x r y) → AllTrue R Z D x → CallKept R Z D c x r y d
     call_kept (refused {c = c} {x = x} {e = e} h) t = record {
       right = refusal_right c e h;
       true_after = t;
@@ -223,7 +222,7 @@ module _ {P S : Type 0} (R : Rules P) (Z : Sets P S) (L : GameLaws R) (K : SetLa
     abbrev Made : P → ℕ → X → ℕ → X → Type 0
     Made p b x told y = (a : Bool) × (s : S) × (n : ℕ) × Visit R Z D p b x a s y n × (told ≡ capped n)
 
-    query_made : {c : Call P} {x : X} {r : Reply} {y : X} → Does R Z D c x r y → (p : P) (b k : ℕ) (a : Answer) → c ≡ Query p b k → r ≡ Answered a → Made p b x a.visits y
+    query_made : {c : Call P} {x : X} {r : Outcome} {y : X} → Does R Z D c x r y → (p : P) (b k : ℕ) (a : Answer) → c ≡ Query p b k → r ≡ Ok (Answered a) → Made p b x a.visits y
     query_made (refused e) p b k a ec er = let z : ◌≡◌ {A = ℕ} 0 1 = cc in absurd (omega arith)
     query_made (queried {p = p'} {b = b'} {cells = k'} {x = x} {y = y} {a = a'} {s = s} {n = n} e v) p b k a ec er =
         let ep : p' ≡ p = cc in
@@ -235,10 +234,10 @@ module _ {P S : Type 0} (R : Rules P) (Z : Sets P S) (L : GameLaws R) (K : SetLa
     query_made (wiped w) p b k a ec er = let z : ◌≡◌ {A = ℕ} 0 1 = cc in absurd (omega arith)
 
     -- Of two queries alike, one straight after the other, the second takes one visit.
-    abbrev Repeat : Call P → Reply → Call P → Reply → Type 0
-    Repeat c r c' r' = (p : P) (b k k' : ℕ) (a a' : Answer) → c ≡ Query p b k → r ≡ Answered a → c' ≡ Query p b k' → r' ≡ Answered a' → a'.visits ≡ 1
+    abbrev Repeat : Call P → Outcome → Call P → Outcome → Type 0
+    Repeat c r c' r' = (p : P) (b k k' : ℕ) (a a' : Answer) → c ≡ Query p b k → r ≡ Ok (Answered a) → c' ≡ Query p b k' → r' ≡ Ok (Answered a') → a'.visits ≡ 1
 
-    repeat_kept : {c : Call P} {x : X} {r : Reply} {y : X} {c' : Call P} {r' : Reply} {z : X} → Does R Z D c x r y → Does R Z D c' y r' z → D.retains x → AllTrue R Z D x → Repeat c r c' r'
+    repeat_kept : {c : Call P} {x : X} {r : Outcome} {y : X} {c' : Call P} {r' : Outcome} {z : X} → Does R Z D c x r y → Does R Z D c' y r' z → D.retains x → AllTrue R Z D x → Repeat c r c' r'
     repeat_kept d d' h t = λ p b k k' a a' ec er ec' er'.
         let v = query_made d p b k a ec er in
         let w = query_made d' p b k' a' ec' er' in
@@ -253,22 +252,22 @@ module _ {P S : Type 0} (R : Rules P) (Z : Sets P S) (L : GameLaws R) (K : SetLa
     choosing_retains (this_one h v) r = visit_retains R Z L K D E v r
     choosing_retains (later_one h v k) r = choosing_retains k (visit_retains R Z L K D E v r)
 
-    call_retains : {c : Call P} {x : X} {r : Reply} {y : X} → Does R Z D c x r y → D.retains x → D.retains y
+    call_retains : {c : Call P} {x : X} {r : Outcome} {y : X} → Does R Z D c x r y → D.retains x → D.retains y
     call_retains (refused e) h = h
     call_retains (queried e v) h = visit_retains R Z L K D E v h
     call_retains (solved e k) h = solving_retains k h
     call_retains (chosen e k l) h = choosing_retains l (solving_retains k h)
     call_retains (wiped {x = x} {y = y} w) h = E.retain_wipes x y h w
 
-    each_kept : {x : X} {cs : List (Call P)} {rs : List Reply} {y : X} → (k : Calls R Z D x cs rs y) → AllTrue R Z D x → EachKept R Z D k
+    each_kept : {x : X} {cs : List (Call P)} {rs : List Outcome} {y : X} → (k : Calls R Z D x cs rs y) → AllTrue R Z D x → EachKept R Z D k
     each_kept done t = tt
     each_kept (next d k) t = let o = call_kept d t in (o, each_kept k o.true_after)
 
-    repeats_kept : {cs : List (Call P)} {rs : List Reply} {c : Call P} {r : Reply} {c' : Call P} {r' : Reply} → InTurn cs rs c r c' r' → {x y : X} → Calls R Z D x cs rs y → D.retains x → AllTrue R Z D x → Repeat c r c' r'
+    repeats_kept : {cs : List (Call P)} {rs : List Outcome} {c : Call P} {r : Outcome} {c' : Call P} {r' : Outcome} → InTurn cs rs c r c' r' → {x y : X} → Calls R Z D x cs rs y → D.retains x → AllTrue R Z D x → Repeat c r c' r'
     repeats_kept first_two (next d (next d' k)) h t = repeat_kept d d' h t
     repeats_kept (later_two i) (next d k) h t = repeats_kept i k (call_retains d h) (call_kept d t).true_after
 
-    pub session_kept : (x y z : X) (cs : List (Call P)) (rs : List Reply) → D.wipes x y → (k : Calls R Z D y cs rs z) → SessionKept R Z D x y z cs rs k
+    pub session_kept : (x y z : X) (cs : List (Call P)) (rs : List Outcome) → D.wipes x y → (k : Calls R Z D y cs rs z) → SessionKept R Z D x y z cs rs k
     session_kept x y z cs rs w k =
         let blank = E.wipe_clears x y w in
         let t : AllTrue R Z D y = λ e h. absurd (blank e h) in
