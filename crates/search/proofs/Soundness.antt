@@ -1,7 +1,8 @@
 -- Every visit over a table of true bounds is sound.
-use Rattle.std.proofs.Common.{◌≡◌, ℕ, zero, suc, ◌-◌, ◌<◌, ◌≤◌, Bool, true, false, cond, not, T, eqb, ltb, leb, Some, None, sym, refl, ◌∙◌, subst, ap₂, inl, inr, arith, eqb→eq, ltb→lt, leb→le, nltb→le}
-use lib.Dec.{eqb_refl, nleb→lt}
-use native.Mathlib.Decide.{dec_lt}
+use Rattle.std.proofs.Common.{◌≡◌, ℕ, zero, suc, ◌-◌, ◌<◌, ◌≤◌, Bool, true, false, cond, not, eqb, leb, Some, None, sym, refl, ◌∙◌, subst, ap₂, inl, inr, arith}
+use Rattle.std.proofs.lemmas.Bool.{cond-true, cond-false, eq-eqb, ne_eqb}
+use Rattle.std.proofs.lemmas.Bool.Decides.{leb_tells, nat_tests}
+use borrow.Author.Count.{below_more}
 use Rattle.search.specs.declared.entry.Bound.{Bound}
 use Rattle.search.specs.declared.entry.Bound.TheVariants.{Floor, Ceiling}
 use Rattle.search.specs.Entries.{HoldsOf, Decisive, True, bound_of, offer, verdict}
@@ -13,22 +14,12 @@ use Rattle.search.specs.Tables.{AllTrue, Memory, MemoryLaws}
 use Rattle.search.specs.Visits.{Tried, Visit, at_once, by_cover, by_move, none_yet, one_more, remembered, rest_of, settled}
 use Rattle.search.proofs.Worth.{worth_ended, worth_least, worth_most, worth_some, worth_top}
 
-pub some_none : {A : Type 0} {a : A} → Some a ≡ None → ⊥
-some_none e = let z : ◌≡◌ {A = ℕ} 0 1 = cc in omega arith
-
-pub some_same : {A : Type 0} {a b : A} → Some a ≡ Some b → a ≡ b
-some_same e = cc
-
 pub twice_not : (c : Bool) → c ≡ not (not c)
 twice_not true = refl
 twice_not false = refl
 
 leb_says : (b v : ℕ) → Says (leb b v) b v
-leb_says b v = go (leb b v) refl
-  where
-    go : (c : Bool) → leb b v ≡ c → Says c b v
-    go true e = leb→le b v (subst T (sym e) tt)
-    go false e = nleb→lt b v (subst (λ c. T (not c)) (sym e) tt)
+leb_says b v = elim (leb_tells b v) [ inl t ↦ rw t.0 t.1 | inr t ↦ rw t.0 t.1 ]
 
 -- A true bound that decides b answers right.
 verdict_says : (d : Bound) (b w : ℕ) → HoldsOf d w → Decisive d b → Says (verdict d) b w
@@ -46,22 +37,8 @@ pub record Unsettled {P : Type 0} (R : Rules P) (p : P) (b : ℕ) : Type 0 where
   pub within : b ≤ R.top p
   pub live : Live R p
 
-not_zero : (n : ℕ) → T (not (eqb n 0)) → 0 < n
-not_zero zero t = absurd t
-not_zero (suc n) t = omega arith
-
 pub unsettled : {P : Type 0} (R : Rules P) (p : P) (b : ℕ) → settled R p b ≡ None → Unsettled R p b
-unsettled R p b = go (eqb b 0) (ltb (R.top p) b) (eqb (R.moves p) 0) refl refl refl
-  where
-    go : (u v w : Bool) → eqb b 0 ≡ u → ltb (R.top p) b ≡ v → eqb (R.moves p) 0 ≡ w → cond u (Some true) (cond v (Some false) (cond w (Some (leb b (R.score p))) None)) ≡ None → Unsettled R p b
-    go true v w eu ev ew e = absurd (some_none e)
-    go false true w eu ev ew e = absurd (some_none e)
-    go false false true eu ev ew e = absurd (some_none e)
-    go false false false eu ev ew e = record {
-      asks = not_zero b (subst (λ c. T (not c)) (sym eu) tt);
-      within = nltb→le (R.top p) b (subst (λ c. T (not c)) (sym ev) tt);
-      live = not_zero (R.moves p) (subst (λ c. T (not c)) (sym ew) tt);
-    }
+unsettled R p b e = record { asks = grind (arith, nat_tests); within = grind (arith, nat_tests); live = grind (arith, nat_tests) }
 
 -- The sets of the moves tried so far, and one more.
 module _ {S : Type 0} where
@@ -70,38 +47,20 @@ module _ {S : Type 0} where
 
   put_here : (U : ℕ → S) (i : ℕ) (s : S) → put U i s i ≡ s
   unfolding put
-  put_here U i s = go (eqb i i) (eqb_refl i)
-    where
-      go : (c : Bool) → T c → cond c s (U i) ≡ s
-      go true t = refl
-      go false t = absurd t
+  put_here U i s = cond-true (eqb i i) s (U i) (eq-eqb i i refl)
 
   put_below : (U : ℕ → S) (i : ℕ) (s : S) (k : ℕ) → k < i → put U i s k ≡ U k
   unfolding put
-  put_below U i s k h = go (eqb k i) refl
-    where
-      go : (c : Bool) → eqb k i ≡ c → cond c s (U k) ≡ U k
-      go true e = let q = eqb→eq k i (subst T (sym e) tt) in absurd (omega arith)
-      go false e = refl
+  put_below U i s k h = cond-false (eqb k i) s (U k) (ne_eqb k i (λ e. omega arith))
 
-  put_all : (U : ℕ → S) (i : ℕ) (s : S) (k : ℕ) → k < suc i → (Q : ℕ → S → Type 0) → (k < i → Q k (U k)) → Q i s → Q k (put U i s k)
-  put_all U i s k l Q below here = elim (dec_lt k i) [
-    | yes m ↦ subst (Q k) (sym (put_below U i s k m)) (below m)
-    | no m ↦ (let e : i ≡ k = omega arith in subst (λ n. Q n (put U i s n)) e (subst (Q i) (sym (put_here U i s)) here))
-  ]
+  put_all : (U : ℕ → S) (i : ℕ) (s : S) (Q : ℕ → S → Type 0) → ((k : ℕ) → k < i → Q k (U k)) → Q i s → (k : ℕ) → k < suc i → Q k (put U i s k)
+  put_all U i s Q below here k l =
+      below_more (λ n. Q n (put U i s n)) i (λ k l. rw (put_below U i s k l) (below k l)) (rw (put_here U i s) here) k (omega arith)
 
 module _ {P S : Type 0} (R : Rules P) (Z : Sets P S) (L : GameLaws R) (K : SetLaws R Z) where
   -- Members of the broad set have the same answer where no move is needed.
   pub settled_says : (p : P) (b : ℕ) (a : Bool) → settled R p b ≡ Some a → (q : P) → In Z (Z.broad p) q → Says a b (worth R q)
-  settled_says p b a = go (eqb b 0) (ltb (R.top p) b) (eqb (R.moves p) 0) refl refl refl
-    where
-      go : (u v w : Bool) → eqb b 0 ≡ u → ltb (R.top p) b ≡ v → eqb (R.moves p) 0 ≡ w → cond u (Some true) (cond v (Some false) (cond w (Some (leb b (R.score p))) None)) ≡ Some a → (q : P) → In Z (Z.broad p) q → Says a b (worth R q)
-      go true v w eu ev ew e q i = subst (λ c. Says c b (worth R q)) (some_same e) (let z = eqb→eq b 0 (subst T (sym eu) tt) in omega arith)
-      go false true w eu ev ew e q i = subst (λ c. Says c b (worth R q)) (some_same e) (omega (arith, worth_top R L q, K.broad_top p q i, ltb→lt (R.top p) b (subst T (sym ev) tt)))
-      go false false true eu ev ew e q i =
-          let r = K.broad_end p q i (eqb→eq (R.moves p) 0 (subst T (sym ew) tt)) in
-          subst (λ c. Says c b (worth R q)) (some_same e) (subst (Says (leb b (R.score p)) b) (sym (worth_ended R L q r.0 ∙ r.1)) (leb_says b (R.score p)))
-      go false false false eu ev ew e q i = absurd (some_none (sym e))
+  settled_says p b a e q i = grind (arith, nat_tests, worth_top R L q, worth_ended R L q, K.broad_top p q i, K.broad_end p q i)
 
   -- A move that answers as the side to move wants answers for the position.
   pub move_says : (c : Bool) (q : P) (j b : ℕ) → R.counting q ≡ c → Legal R q j → 0 < b → Says c (rest_of R q b j) (worth R (R.after q j)) → Says c b (worth R q)
@@ -153,8 +112,8 @@ module _ {P S : Type 0} (R : Rules P) (Z : Sets P S) (L : GameLaws R) (K : SetLa
       record {
         through = U;
         is = ap₂ (λ a v. joined R Z p i a (Z.pull p i v)) (t.is ∙ cover_ext p i t.through U (λ k l. sym (put_below t.through i s k l))) (sym (put_here t.through i s));
-        own = λ k l. put_all t.through i s k l (λ n v. In Z v (R.after p n)) (t.own k) h;
-        alike = λ k l. put_all t.through i s k l (λ n v. (q : P) → In Z v q → Says (not (R.counting p)) (rest_of R p b n) (worth R q)) (t.alike k) f;
+        own = put_all t.through i s (λ n v. In Z v (R.after p n)) t.own h;
+        alike = put_all t.through i s (λ n v. (q : P) → In Z v q → Says (not (R.counting p)) (rest_of R p b n) (worth R q)) t.alike f;
       }
 
   -- Members of the cover of moves that all fail have the other answer.

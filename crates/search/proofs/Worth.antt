@@ -1,7 +1,7 @@
 -- The worth follows the rule of minimax, it alone does, and each live position has one move.
-use Rattle.std.proofs.Common.{◌≡◌, ℕ, zero, suc, ◌+◌, ◌-◌, ◌<◌, ◌≤◌, min, max, Bool, true, false, cond, eqb, ◌⊎◌, sym, refl, ap, ◌∙◌, subst, ap₂, inl, inr, arith}
-use Rattle.std.proofs.lemmas.Bool.{cases_eq, cases_order, cond_both, eq-eqb, eqb-true}
-use native.Mathlib.Decide.{dec_le, dec_lt}
+use Rattle.std.proofs.Common.{◌≡◌, ℕ, zero, suc, ◌+◌, ◌<◌, ◌≤◌, Bool, true, false, eqb, ◌⊎◌, sym, refl, ap, ◌∙◌, ap₂, inl, inr, arith}
+use Rattle.std.proofs.lemmas.Bool.{cond_both, eq-eqb, eqb-true}
+use native.Mathlib.Decide.{dec_lt}
 use Rattle.search.specs.Games.{Ended, GameLaws, Legal, Live, Rules, most_points}
 use Rattle.search.specs.Minimax.{IsMove, Minimax, best_to, better, comes_to, first_to, move, worth, worth_by, worth_within}
 
@@ -23,8 +23,7 @@ best_least v zero i h = grind arith
 best_least v (suc n) i h = grind (arith, best_least v n i)
 
 better_one : (c : Bool) (a b : ℕ) → (better c a b ≡ a) ⊎ (better c a b ≡ b)
-better_one true a b = grind arith
-better_one false a b = grind arith
+better_one c a b = grind arith
 
 best_some : (c : Bool) (v : ℕ → ℕ) (n : ℕ) → (i : ℕ) × (i ≤ n) × (best_to c v n ≡ v i)
 unfolding best_to
@@ -44,7 +43,7 @@ first_found f (suc n) zero h e = rw e (e, omega arith)
 first_found f (suc n) (suc i) h e =
     let r = first_found (λ k. f (suc k)) n i (omega arith) e in
     let found : ℕ → Type 0 = λ m. (f m ≡ true) × (m ≤ suc i) in
-    cond_both (f 0) 0 (suc (first_to (λ k. f (suc k)) n)) found (λ t. (t, omega arith)) (λ _. (r.0, omega arith))
+    cond_both (f 0) 0 _ found (λ t. (t, omega arith)) (λ _. (r.0, omega arith))
 
 -- What a position is worth by its moves, of which there may be none.
 
@@ -135,7 +134,7 @@ module _ {P : Type 0} (R : Rules P) (L : GameLaws R) where
       by_height (λ p. v p ≤ w p)
       (λ p h. elim (dec_lt 0 (R.moves p)) [
         | yes l ↦ only_live v w V W p (R.counting p) refl l h
-        | no l ↦ (let e : Ended R p = omega arith in omega (arith, V.ended p e, W.ended p e))
+        | no l ↦ omega (arith, V.ended p, W.ended p)
       ])
 
   pub worth_only : (w : P → ℕ) → Minimax R w → (p : P) → w p ≡ worth R p
@@ -146,7 +145,7 @@ module _ {P : Type 0} (R : Rules P) (L : GameLaws R) where
       by_height (λ p. worth R p ≤ R.top p)
       (λ p h. elim (dec_lt 0 (R.moves p)) [
         | yes l ↦ (let r = worth_some p l in omega (arith, h r.0 r.1, L.gain_top p r.0 r.1, r.2))
-        | no l ↦ (let e : Ended R p = omega arith in omega (arith, worth_ended p e, L.score_top p e))
+        | no l ↦ omega (arith, worth_ended p, L.score_top p)
       ])
 
   pub has_move : (p : P) → Live R p → IsMove R p (move R p)
@@ -169,17 +168,10 @@ module _ {P : Type 0} (R : Rules P) (L : GameLaws R) where
   pub one_move : (p : P) (m : ℕ) → IsMove R p m → m ≡ move R p
   one_move p m i =
       let o = has_move p (omega (arith, i.legal)) in
-      elim (cases_order m (move R p)) [
-        | inl e ↦ e
-        | inr (inl l) ↦ absurd (o.first m l i.reaches)
-        | inr (inr l) ↦ absurd (i.first (move R p) l o.reaches)
-      ]
+      grind arith
 
   pub low_gain : (p : P) (m : ℕ) → Legal R p m → R.gain p m ≤ most_points
   low_gain p m h = omega (arith, L.gain_top p m h, L.low_top p)
 
   pub low_score : (p : P) → R.score p ≤ most_points
-  low_score p = elim (dec_lt 0 (R.moves p)) [
-    | yes l ↦ omega (arith, L.no_score p l)
-    | no l ↦ (let e : Ended R p = omega arith in omega (arith, L.score_top p e, L.low_top p))
-  ]
+  low_score p = grind (arith, L.no_score p, L.score_top p, L.low_top p)
