@@ -11,14 +11,14 @@ use Rattle.search.specs.Calls.{Calls, Choosing, Does, Outcome, Solving, chosen, 
 use Rattle.search.specs.Entries.{offer}
 use Rattle.search.specs.Games.{GameLaws, Legal, Live, Rules}
 use Rattle.search.specs.Minimax.{worth}
-use Rattle.search.specs.Promises.{BareRight}
+use Rattle.search.specs.Promises.{BareRight, SessionsRight, VisitsRight}
 use Rattle.search.specs.Sets.{SetLaws, Sets}
 use Rattle.search.specs.Tables.{AllTrue, Memory, MemoryLaws}
 use Rattle.search.specs.Visits.{Tried, Unaided, UnaidedMoves, Visit, at_once, by_cover, by_move, none_yet, one_more, remembered, rest_of, settled, aim}
 use Rattle.search.proofs.BareSearch.{bare_says, same_or_not, says_one}
-use Rattle.search.proofs.Sessions.{Missed, best_live, call_kept, missed_more, solve_kept}
+use Rattle.search.proofs.Sessions.{Missed, best_live, call_kept, missed_more, session_kept, solve_kept}
 use Rattle.search.proofs.Soundness.{visit_sound}
-use Rattle.search.proofs.Thrift.{visit_thrifty}
+use Rattle.search.proofs.Thrift.{visit_again, visit_one, visit_thrifty}
 use Rattle.search.proofs.Worth.{by_height, worth_some}
 
 module _ {P S : Type 0} (R : Rules P) (Z : Sets P S) (L : GameLaws R) {X : Type 0} (D : Memory P S X) (E : MemoryLaws Z D) where
@@ -97,6 +97,17 @@ module _ {P S : Type 0} (R : Rules P) (Z : Sets P S) (L : GameLaws R) {X : Type 
         let w = E.wiped x in
         let k = calls_end cs w.0 (λ e h. absurd (E.wipe_clears x w.0 w.1 e h)) in
         (w.0, k.0, k.1, w.1, k.2)
+
+    pub visits_right : VisitsRight R Z D
+    visits_right = record {
+      sound = λ p b x a s y n t v. visit_sound R Z L K D E v t;
+      thrifty = λ p b x a s y n t v. (visit_thrifty R Z L K D E v t, visit_one R Z L K D E v);
+      repeat = λ p b x a s y n c u z m h t v w. visit_again R Z L K D E v w h t;
+      end = visit_ends;
+    }
+
+    pub sessions_right : SessionsRight R Z D
+    sessions_right = record { kept = session_kept R Z L K D E; end = session_ends }
 
 nothing_laws : {P S : Type 0} (Z : Sets P S) → MemoryLaws Z nothing_held
 nothing_laws Z = record {

@@ -4,6 +4,7 @@ use Rattle.std.proofs.lemmas.Bool.{cond_both, eq-eqb, eqb-true}
 use native.Mathlib.Decide.{dec_lt}
 use Rattle.search.specs.Games.{Ended, GameLaws, Legal, Live, Rules, most_points}
 use Rattle.search.specs.Minimax.{IsMove, Minimax, best_to, better, comes_to, first_to, move, worth, worth_by, worth_within}
+use Rattle.search.specs.Promises.{WorthRight}
 
 -- The best of several numbers.
 
@@ -175,3 +176,6 @@ module _ {P : Type 0} (R : Rules P) (L : GameLaws R) where
 
   pub low_score : (p : P) → R.score p ≤ most_points
   low_score p = grind (arith, L.no_score p, L.score_top p, L.low_top p)
+
+  pub worth_right : WorthRight R
+  worth_right = record { rule = worth_rule; only = worth_only; under_top = worth_top; has_move = has_move; one_move = one_move; low_gain = low_gain; low_score = low_score }
