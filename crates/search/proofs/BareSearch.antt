@@ -1,20 +1,18 @@
 -- The bare search keeps the rules of a visit and answers by minimax.
-use Rattle.std.proofs.Common.{◌≡◌, ℕ, zero, suc, ◌+◌, ◌<◌, ◌≤◌, Bool, true, false, not, ◌⊎◌, Some, None, Option, refl, ap, ap₂, inl, inr, arith}
+use Rattle.std.proofs.Common.{◌≡◌, ℕ, zero, suc, ◌+◌, ◌<◌, ◌≤◌, Bool, true, false, not, ◌⊎◌, Some, None, Option, refl, ap, ap₂, sym, inl, inr, arith}
+use mathlib.Core.Bool.{not-not}
 use borrow.Author.Count.{below_none, below_more}
 use Rattle.search.specs.Bare.{Count, bare, bare_moves, bare_visits, bare_within, then, with_visit}
 use Rattle.search.specs.Games.{GameLaws, Legal, Live, Rules}
 use Rattle.search.specs.Minimax.{Says, worth}
 use Rattle.search.specs.Sets.{SetLaws, Sets}
 use Rattle.search.specs.Visits.{rest_of, settled}
-use Rattle.search.proofs.Soundness.{move_says, moves_say, settled_says, twice_not, unsettled}
+use Rattle.search.proofs.Soundness.{move_says, moves_say, settled_says, unsettled}
 use Rattle.search.proofs.Worth.{by_height}
 
 -- Only one answer is right.
 pub says_one : (a c : Bool) (b w : ℕ) → Says a b w → Says c b w → a ≡ c
-says_one true true b w h k = refl
-says_one true false b w h k = absurd (omega arith)
-says_one false true b w h k = absurd (omega arith)
-says_one false false b w h k = refl
+says_one a c b w h k = grind arith
 
 -- An answer is one that is wanted or the other.
 pub same_or_not : (a c : Bool) → (a ≡ c) ⊎ (a ≡ not c)
@@ -28,8 +26,7 @@ then_goes_on c r later e = grind arith
 
 -- A visit counts itself.
 visit_counts : (o : Option Bool) (moves : Count) → 1 ≤ (with_visit o moves).1
-visit_counts (Some a) moves = omega arith
-visit_counts None moves = omega arith
+visit_counts o moves = grind arith
 
 module _ {P : Type 0} (R : Rules P) (L : GameLaws R) where
   moves_ext : (f g : P → ℕ → Count) (p : P) (b l i : ℕ) → i + l ≡ R.moves p → ((j : ℕ) (c : ℕ) → Legal R p j → f (R.after p j) c ≡ g (R.after p j) c) → bare_moves R f p b l i ≡ bare_moves R g p b l i
@@ -75,7 +72,7 @@ module _ {P : Type 0} (R : Rules P) (L : GameLaws R) where
   module _ {S : Type 0} (Z : Sets P S) (K : SetLaws R Z) where
     bare_moves_say : (p : P) (b l i : ℕ) → 0 < b → Live R p → i + l ≡ R.moves p → ((j : ℕ) → Legal R p j → (c : ℕ) → Says (bare R (R.after p j) c).0 c (worth R (R.after p j))) → ((j : ℕ) → j < i → Says (not (R.counting p)) (rest_of R p b j) (worth R (R.after p j))) → Says (bare_moves R (bare R) p b l i).0 b (worth R p)
     unfolding bare_moves
-    bare_moves_say p b zero i hb hl e h t = moves_say R Z L K (not (R.counting p)) p b hl (λ j k. t j (omega arith)) (twice_not (R.counting p))
+    bare_moves_say p b zero i hb hl e h t = moves_say R Z L K (not (R.counting p)) p b hl (λ j k. t j (omega arith)) (sym (not-not (R.counting p)))
     bare_moves_say p b (suc l) i hb hl e h t =
         let r = bare R (R.after p i) (rest_of R p b i) in
         let later = bare_moves R (bare R) p b l (suc i) in

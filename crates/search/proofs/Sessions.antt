@@ -35,13 +35,11 @@ module _ {P : Type 0} (R : Rules P) where
 
 module _ {P S : Type 0} (R : Rules P) (Z : Sets P S) (L : GameLaws R) (K : SetLaws R Z) where
   -- A move reaches the worth exactly if the query at its aim answers as the side to move wants.
-  aim_reaches : (c : Bool) (p : P) (i : ℕ) → R.counting p ≡ c → Legal R p i → Says c (aim R p (worth R p) i) (worth R (R.after p i)) → comes_to R p i ≡ worth R p
-  aim_reaches true p i d h s = let r = rw d at s in omega (arith, worth_most R L p i d h)
-  aim_reaches false p i d h s = let r = rw d at s in omega (arith, worth_least R L p i d h)
+  aim_reaches : (p : P) (i : ℕ) → Legal R p i → Says (R.counting p) (aim R p (worth R p) i) (worth R (R.after p i)) → comes_to R p i ≡ worth R p
+  aim_reaches p i h s = grind (arith, worth_most R L p i, worth_least R L p i)
 
-  aim_misses : (c : Bool) (p : P) (i : ℕ) → R.counting p ≡ c → Says (not c) (aim R p (worth R p) i) (worth R (R.after p i)) → comes_to R p i ≡ worth R p → ⊥
-  aim_misses true p i d s e = let r = rw d at s in omega arith
-  aim_misses false p i d s e = let r = rw d at s in omega arith
+  aim_misses : (p : P) (i : ℕ) → Says (not (R.counting p)) (aim R p (worth R p) i) (worth R (R.after p i)) → comes_to R p i ≡ worth R p → ⊥
+  aim_misses p i s e = grind arith
 
   -- No move before number i reaches the worth.
   abbrev pub Missed : P → ℕ → Type 0
@@ -49,7 +47,7 @@ module _ {P S : Type 0} (R : Rules P) (Z : Sets P S) (L : GameLaws R) (K : SetLa
 
   pub missed_more : (p : P) (w i : ℕ) → w ≡ worth R p → Missed p i → Says (not (R.counting p)) (aim R p w i) (worth R (R.after p i)) → Missed p (suc i)
   missed_more p w i e f s j l =
-      below_more (λ j. comes_to R p j ≡ worth R p → ⊥) i f (aim_misses (R.counting p) p i refl (rw e at s)) j (omega arith)
+      below_more (λ j. comes_to R p j ≡ worth R p → ⊥) i f (aim_misses p i (rw e at s)) j (omega arith)
 
   module _ {X : Type 0} (D : Memory P S X) (E : MemoryLaws Z D) where
     refusal_right : (c : Call P) (e : CallError) → refusal R c ≡ Some e → Right R Z D c (Err e)
@@ -85,7 +83,7 @@ module _ {P S : Type 0} (R : Rules P) (Z : Sets P S) (L : GameLaws R) (K : SetLa
         let o = visit_sound R Z L K D E v t in
         let c = subst (λ w. Thrifty (bare_visits R (R.after p i) (aim R p w i)) n (Unaided R Z D v)) e (visit_thrifty R Z L K D E v t) in
         let d : suc i - i ≡ suc 0 = omega arith in (
-          record { legal = h; reaches = aim_reaches (R.counting p) p i refl h (rw e at o.answer); first = f },
+          record { legal = h; reaches = aim_reaches p i h (rw e at o.answer); first = f },
           o.kept,
           omega arith,
           rw d (record { most = omega (arith, c.most); equal = λ u. omega (arith, c.equal u) }),

@@ -2,7 +2,8 @@
 use Rattle.std.proofs.Common.{◌≡◌, ℕ, zero, suc, ◌-◌, ◌<◌, ◌≤◌, Bool, true, false, cond, not, eqb, leb, Some, None, sym, refl, ◌∙◌, subst, ap₂, inl, inr, arith}
 use Rattle.std.proofs.lemmas.Bool.{cond-true, cond-false, eq-eqb, ne_eqb}
 use Rattle.std.proofs.lemmas.Bool.Decides.{leb_tells, nat_tests}
-use borrow.Author.Count.{below_more}
+use borrow.Author.Count.{below_none, below_more}
+use mathlib.Core.Bool.{not-not}
 use Rattle.search.specs.declared.entry.Bound.{Bound}
 use Rattle.search.specs.declared.entry.Bound.TheVariants.{Floor, Ceiling}
 use Rattle.search.specs.Entries.{HoldsOf, Decisive, True, bound_of, offer, verdict}
@@ -14,31 +15,21 @@ use Rattle.search.specs.Tables.{AllTrue, Memory, MemoryLaws}
 use Rattle.search.specs.Visits.{Tried, Visit, at_once, by_cover, by_move, none_yet, one_more, remembered, rest_of, settled}
 use Rattle.search.proofs.Worth.{worth_ended, worth_least, worth_most, worth_some, worth_top}
 
-pub twice_not : (c : Bool) → c ≡ not (not c)
-twice_not true = refl
-twice_not false = refl
-
-leb_says : (b v : ℕ) → Says (leb b v) b v
-leb_says b v = elim (leb_tells b v) [ inl t ↦ rw t.0 t.1 | inr t ↦ rw t.0 t.1 ]
-
 -- A true bound that decides b answers right.
 verdict_says : (d : Bound) (b w : ℕ) → HoldsOf d w → Decisive d b → Says (verdict d) b w
-verdict_says (Floor f) b w t d = omega arith
-verdict_says (Ceiling f) b w t d = omega arith
+verdict_says d b w t h = grind arith
 
 -- A right answer gives a true bound.
 says_bounds : (a : Bool) (b w : ℕ) → 0 < b → Says a b w → HoldsOf (bound_of a b) w
-says_bounds true b w h s = s
-says_bounds false b w h s = omega arith
+says_bounds a b w h s = grind arith
 
 -- A visit that is not settled without a move.
 pub record Unsettled {P : Type 0} (R : Rules P) (p : P) (b : ℕ) : Type 0 where
   pub asks : 0 < b
-  pub within : b ≤ R.top p
   pub live : Live R p
 
 pub unsettled : {P : Type 0} (R : Rules P) (p : P) (b : ℕ) → settled R p b ≡ None → Unsettled R p b
-unsettled R p b e = record { asks = grind (arith, nat_tests); within = grind (arith, nat_tests); live = grind (arith, nat_tests) }
+unsettled R p b e = record { asks = grind (arith, nat_tests); live = grind (arith, nat_tests) }
 
 -- The sets of the moves tried so far, and one more.
 module _ {S : Type 0} where
@@ -64,13 +55,11 @@ module _ {P S : Type 0} (R : Rules P) (Z : Sets P S) (L : GameLaws R) (K : SetLa
 
   -- A move that answers as the side to move wants answers for the position.
   pub move_says : (c : Bool) (q : P) (j b : ℕ) → R.counting q ≡ c → Legal R q j → 0 < b → Says c (rest_of R q b j) (worth R (R.after q j)) → Says c b (worth R q)
-  move_says true q j b e l h s = omega (arith, worth_most R L q j e l)
-  move_says false q j b e l h s = omega (arith, worth_least R L q j e l)
+  move_says c q j b e l h s = grind (arith, worth_most R L q j, worth_least R L q j)
 
   -- If every move answers as the side to move does not want, so does the position.
   pub moves_say : (c : Bool) (q : P) (b : ℕ) → Live R q → ((j : ℕ) → Legal R q j → Says c (rest_of R q b j) (worth R (R.after q j))) → (R.counting q ≡ not c) → Says c b (worth R q)
-  moves_say true q b l h e = let r = worth_some R L q l in omega (arith, h r.0 r.1, r.2)
-  moves_say false q b l h e = let r = worth_some R L q l in omega (arith, h r.0 r.1, r.2)
+  moves_say c q b l h e = let r = worth_some R L q l in grind (arith, h r.0 r.1, r.2)
 
   cover_ext : (p : P) (n : ℕ) (U V : ℕ → S) → ((k : ℕ) → k < n → U k ≡ V k) → cover_to R Z p U n ≡ cover_to R Z p V n
   cover_ext p zero U V h = refl
@@ -94,7 +83,7 @@ module _ {P S : Type 0} (R : Rules P) (Z : Sets P S) (L : GameLaws R) (K : SetLa
       let w = K.pull_all p i s l o q m in
       let d = w.1 in
       move_says (R.counting p) q d.0 b w.0 d.1 h
-      (subst (λ g. Says (R.counting p) (b - g) (worth R (R.after q d.0))) (sym d.2.0) (f (R.after q d.0) d.2.1))
+      (rw d.2.0 (f (R.after q d.0) d.2.1))
 
   -- The moves before number i were tried and none settles: through which sets they were pulled.
   pub record Failed (p : P) (b i : ℕ) (acc : S) : Type 0 where
@@ -104,7 +93,7 @@ module _ {P S : Type 0} (R : Rules P) (Z : Sets P S) (L : GameLaws R) (K : SetLa
     pub alike : (k : ℕ) → k < i → (q : P) → In Z (through k) q → Says (not (R.counting p)) (rest_of R p b k) (worth R q)
 
   failed_none : (p : P) (b : ℕ) → Failed p b 0 (Z.broad p)
-  failed_none p b = record { through = λ _. Z.broad p; is = refl; own = λ k h. absurd (omega arith); alike = λ k h. absurd (omega arith) }
+  failed_none p b = record { through = λ _. Z.broad p; is = refl; own = below_none _; alike = below_none _ }
 
   failed_more : (p : P) (b i : ℕ) (acc s : S) → Failed p b i acc → In Z s (R.after p i) → ((q : P) → In Z s q → Says (not (R.counting p)) (rest_of R p b i) (worth R q)) → Failed p b (suc i) (joined R Z p i acc (Z.pull p i s))
   failed_more p b i acc s t h f =
@@ -119,11 +108,10 @@ module _ {P S : Type 0} (R : Rules P) (Z : Sets P S) (L : GameLaws R) (K : SetLa
   -- Members of the cover of moves that all fail have the other answer.
   cover_says : (p : P) (b : ℕ) (acc : S) → Live R p → Failed p b (R.moves p) acc → (q : P) → In Z acc q → Says (not (R.counting p)) b (worth R q)
   cover_says p b acc l t q m =
-      let w = K.cover_all p t.through l t.own q (subst (λ c. In Z c q) t.is m) in
+      let w = K.cover_all p t.through l t.own q (rw t.is at m) in
       moves_say (not (R.counting p)) q b w.1
-      (λ j h. let d = w.2 j h in
-      subst (λ g. Says (not (R.counting p)) (b - g) (worth R (R.after q j))) (sym d.2.0) (t.alike d.0 d.1 (R.after q j) d.2.1))
-      (w.0 ∙ twice_not (R.counting p))
+      (λ j h. let d = w.2 j h in rw d.2.0 (t.alike d.0 d.1 (R.after q j) d.2.1))
+      (w.0 ∙ sym (not-not (R.counting p)))
 
   module _ {X : Type 0} (D : Memory P S X) (E : MemoryLaws Z D) where
     -- A sound answer may be offered to the table.
@@ -134,7 +122,7 @@ module _ {P S : Type 0} (R : Rules P) (Z : Sets P S) (L : GameLaws R) (K : SetLa
       alike = f;
       kept = λ d k. elim (E.keep_adds y (offer s a b) z d w k) [
         | inl o ↦ t d o
-        | inr o ↦ subst (True R Z) (sym o) (λ q j. says_bounds a b (worth R q) h (f q j))
+        | inr o ↦ rw o (λ q j. says_bounds a b (worth R q) h (f q j))
       ];
     }
 
@@ -154,7 +142,7 @@ module _ {P S : Type 0} (R : Rules P) (Z : Sets P S) (L : GameLaws R) (K : SetLa
           let u = unsettled R p b e in
           let o = moves_sound r t in
           offered p b (not (R.counting p)) acc y z u.asks
-          (subst (λ c. In Z c p) (sym o.0.is) (cover_own p (R.moves p) o.0.through (omega arith) o.0.own))
+          (rw o.0.is (cover_own p (R.moves p) o.0.through (omega arith) o.0.own))
           (cover_says p b acc u.live o.0) o.1 k
 
       pub moves_sound : {p : P} {b i : ℕ} {x : X} {acc : S} {y : X} {n : ℕ} → Tried R Z D p b i x acc y n → AllTrue R Z D x → Failed p b i acc × AllTrue R Z D y

@@ -12,8 +12,7 @@ use Rattle.search.proofs.Soundness.{moves_sound, unsettled, visit_sound}
 
 -- What a visit offers decides the same question.
 offer_decides : (a : Bool) (b : ℕ) → 0 < b → Decisive (bound_of a b) b
-offer_decides true b h = omega arith
-offer_decides false b h = omega arith
+offer_decides a b h = grind arith
 
 module _ {P S : Type 0} (R : Rules P) (Z : Sets P S) (L : GameLaws R) (K : SetLaws R Z) {X : Type 0} (D : Memory P S X) (E : MemoryLaws Z D) where
   mutual
