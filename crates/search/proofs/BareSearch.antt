@@ -1,5 +1,5 @@
 -- The bare search keeps the rules of a visit and answers by minimax.
-use Rattle.std.proofs.Common.{◌≡◌, ℕ, zero, suc, ◌+◌, ◌<◌, ◌≤◌, Bool, true, false, not, ◌⊎◌, Some, None, Option, refl, ap, ap₂, sym, inl, inr, arith}
+use Rattle.std.proofs.Common.{◌≡◌, ℕ, zero, suc, ◌+◌, ◌<◌, ◌≤◌, Bool, true, false, not, ◌⊎◌, Some, None, Option, refl, ap, ap₂, sym, ◌∙◌, inl, inr, arith}
 use mathlib.Core.Bool.{not-not}
 use borrow.Author.Count.{below_none, below_more}
 use Rattle.search.specs.Bare.{Count, bare, bare_moves, bare_visits, bare_within, then, with_visit}
@@ -35,21 +35,20 @@ module _ {P : Type 0} (R : Rules P) (L : GameLaws R) where
   moves_ext f g p b (suc l) i e h = ap₂ (then (R.counting p)) (h i _ (omega arith)) (moves_ext f g p b l (suc i) (omega arith) h)
 
   -- More height than is needed changes nothing.
-  bare_agree : (k l : ℕ) (p : P) (b : ℕ) → R.height p < k → R.height p < l → bare_within R k p b ≡ bare_within R l p b
-  unfolding bare_within
-  bare_agree zero l p b hk hl = absurd (omega arith)
-  bare_agree (suc k) zero p b hk hl = absurd (omega arith)
-  bare_agree (suc k) (suc l) p b hk hl =
+  abbrev Reached : P → Type 0
+  Reached p = (b k : ℕ) → R.height p < k → bare_within R k p b ≡ with_visit (settled R p b) (bare_moves R (bare R) p b (R.moves p) 0)
+
+  reached_after : (p : P) → ((i : ℕ) → Legal R p i → Reached (R.after p i)) → Reached p
+  unfolding bare bare_within
+  reached_after p h b zero e = absurd (omega arith)
+  reached_after p h b (suc k) e =
       ap (with_visit (settled R p b))
-      (moves_ext (bare_within R k) (bare_within R l) p b (R.moves p) 0 (omega arith)
-      (λ j c h. let r = L.falls p j h in bare_agree k l (R.after p j) c (omega arith) (omega arith)))
+      (moves_ext (bare_within R k) (bare R) p b (R.moves p) 0 (omega arith)
+      (λ i c l. let r = L.falls p i l in h i l c k (omega arith) ∙ sym (h i l c (suc (R.height (R.after p i))) (omega arith))))
 
   bare_is : (p : P) (b : ℕ) → bare R p b ≡ with_visit (settled R p b) (bare_moves R (bare R) p b (R.moves p) 0)
-  unfolding bare bare_within
-  bare_is p b =
-      ap (with_visit (settled R p b))
-      (moves_ext (bare_within R (R.height p)) (bare R) p b (R.moves p) 0 (omega arith)
-      (λ j c h. let r = L.falls p j h in bare_agree (R.height p) (suc (R.height (R.after p j))) (R.after p j) c (omega arith) (omega arith)))
+  unfolding bare
+  bare_is p b = by_height R L Reached reached_after p b (suc (R.height p)) (omega arith)
 
   -- The visits that the bare search makes from move i on, with l moves left.
   pub left : P → ℕ → ℕ → ℕ → ℕ

@@ -13,15 +13,10 @@ unfolding best_to
 best_ext c v w zero h = h zero (omega arith)
 best_ext c v w (suc n) h = ap₂ (better c) (best_ext c v w n (λ i k. h i (omega arith))) (h (suc n) (omega arith))
 
-best_most : (v : ℕ → ℕ) (n i : ℕ) → i ≤ n → v i ≤ best_to true v n
+best_bounds : (c : Bool) (v : ℕ → ℕ) (n i : ℕ) → i ≤ n → (c ≡ true → v i ≤ best_to c v n) × (c ≡ false → best_to c v n ≤ v i)
 unfolding best_to
-best_most v zero i h = grind arith
-best_most v (suc n) i h = grind (arith, best_most v n i)
-
-best_least : (v : ℕ → ℕ) (n i : ℕ) → i ≤ n → best_to false v n ≤ v i
-unfolding best_to
-best_least v zero i h = grind arith
-best_least v (suc n) i h = grind (arith, best_least v n i)
+best_bounds c v zero i h = grind arith
+best_bounds c v (suc n) i h = (λ e. grind (arith, best_bounds c v n i), λ e. grind (arith, best_bounds c v n i))
 
 better_one : (c : Bool) (a b : ℕ) → (better c a b ≡ a) ⊎ (better c a b ≡ b)
 better_one c a b = grind arith
@@ -59,15 +54,10 @@ module _ {P : Type 0} (R : Rules P) where
   by_none zero p w e = refl
   by_none (suc n) p w e = absurd (omega arith)
 
-  by_most : (n : ℕ) (p : P) (w : P → ℕ) (j : ℕ) → R.counting p ≡ true → j < n → R.gain p j + w (R.after p j) ≤ worth_by R n p w
+  by_bounds : (n : ℕ) (p : P) (w : P → ℕ) (j : ℕ) → j < n → (R.counting p ≡ true → R.gain p j + w (R.after p j) ≤ worth_by R n p w) × (R.counting p ≡ false → worth_by R n p w ≤ R.gain p j + w (R.after p j))
   unfolding worth_by
-  by_most zero p w j e h = absurd (omega arith)
-  by_most (suc n) p w j e h = rw e (best_most (λ i. R.gain p i + w (R.after p i)) n j (omega arith))
-
-  by_least : (n : ℕ) (p : P) (w : P → ℕ) (j : ℕ) → R.counting p ≡ false → j < n → worth_by R n p w ≤ R.gain p j + w (R.after p j)
-  unfolding worth_by
-  by_least zero p w j e h = absurd (omega arith)
-  by_least (suc n) p w j e h = rw e (best_least (λ i. R.gain p i + w (R.after p i)) n j (omega arith))
+  by_bounds zero p w j h = absurd (omega arith)
+  by_bounds (suc n) p w j h = best_bounds (R.counting p) (λ i. R.gain p i + w (R.after p i)) n j (omega arith)
 
   by_some : (n : ℕ) (p : P) (w : P → ℕ) → 0 < n → (j : ℕ) × (j < n) × (worth_by R n p w ≡ R.gain p j + w (R.after p j))
   unfolding worth_by
@@ -90,34 +80,28 @@ module _ {P : Type 0} (R : Rules P) (L : GameLaws R) where
   flat p h = grind (arith, L.falls p 0)
 
   -- More height than is needed changes nothing.
-  within_agree : (k l : ℕ) (p : P) → R.height p ≤ k → R.height p ≤ l → worth_within R k p ≡ worth_within R l p
-  unfolding worth_within
-  within_agree zero zero p hk hl = refl
-  within_agree zero (suc l) p hk hl = sym (by_none R (R.moves p) p (worth_within R l) (flat p hk))
-  within_agree (suc k) zero p hk hl = by_none R (R.moves p) p (worth_within R k) (flat p hl)
-  within_agree (suc k) (suc l) p hk hl =
-      by_ext R (R.moves p) p (worth_within R k) (worth_within R l)
-      (λ i h. let r = L.falls p i h in within_agree k l (R.after p i) (omega arith) (omega arith))
+  abbrev Reached : P → Type 0
+  Reached p = (k : ℕ) → R.height p ≤ k → worth_within R k p ≡ worth_by R (R.moves p) p (worth R)
 
-  within_is : (k : ℕ) (p : P) → R.height p ≤ k → worth_within R k p ≡ worth_by R (R.moves p) p (worth R)
+  reached_after : (p : P) → ((i : ℕ) → Legal R p i → Reached (R.after p i)) → Reached p
   unfolding worth_within worth
-  within_is zero p h = sym (by_none R (R.moves p) p (worth R) (flat p h))
-  within_is (suc k) p h =
+  reached_after p h zero e = sym (by_none R (R.moves p) p (worth R) (flat p e))
+  reached_after p h (suc k) e =
       by_ext R (R.moves p) p (worth_within R k) (worth R)
-      (λ i l. let r = L.falls p i l in within_agree k (R.height (R.after p i)) (R.after p i) (omega arith) (omega arith))
+      (λ i l. let r = L.falls p i l in h i l k (omega arith) ∙ sym (h i l (R.height (R.after p i)) (omega arith)))
 
   worth_is : (p : P) → worth R p ≡ worth_by R (R.moves p) p (worth R)
   unfolding worth
-  worth_is p = within_is (R.height p) p (omega arith)
+  worth_is p = by_height Reached reached_after p (R.height p) (omega arith)
 
   pub worth_ended : (p : P) → Ended R p → worth R p ≡ R.score p
   worth_ended p e = worth_is p ∙ by_none R (R.moves p) p (worth R) e
 
   pub worth_most : (p : P) (j : ℕ) → R.counting p ≡ true → Legal R p j → comes_to R p j ≤ worth R p
-  worth_most p j e h = omega (arith, by_most R (R.moves p) p (worth R) j e h, worth_is p)
+  worth_most p j e h = omega (arith, (by_bounds R (R.moves p) p (worth R) j h).0 e, worth_is p)
 
   pub worth_least : (p : P) (j : ℕ) → R.counting p ≡ false → Legal R p j → worth R p ≤ comes_to R p j
-  worth_least p j e h = omega (arith, by_least R (R.moves p) p (worth R) j e h, worth_is p)
+  worth_least p j e h = omega (arith, (by_bounds R (R.moves p) p (worth R) j h).1 e, worth_is p)
 
   pub worth_some : (p : P) → Live R p → (j : ℕ) × Legal R p j × (worth R p ≡ comes_to R p j)
   worth_some p h = let r = by_some R (R.moves p) p (worth R) h in (r.0, r.1, worth_is p ∙ r.2)
