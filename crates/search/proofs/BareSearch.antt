@@ -1,8 +1,8 @@
 -- The bare search keeps the rules of a visit and answers by minimax.
-use Rattle.std.proofs.Common.{◌≡◌, ℕ, zero, suc, ◌+◌, ◌<◌, ◌≤◌, Bool, true, false, not, ◌⊎◌, Some, None, Option, refl, ap, ap₂, sym, ◌∙◌, inl, inr, arith}
+use Rattle.std.proofs.Common.{◌≡◌, ℕ, zero, suc, ◌+◌, ◌<◌, ◌≤◌, Bool, not, ◌⊎◌, Some, None, Option, refl, ap, ap₂, sym, ◌∙◌, inl, inr, arith}
 use mathlib.Core.Bool.{not-not}
 use borrow.Author.Count.{below_none, below_more}
-use Rattle.search.specs.Bare.{Count, bare, bare_moves, bare_visits, bare_within, then, with_visit}
+use Rattle.search.specs.Bare.{Count, bare, bare_moves, bare_visits, bare_within, first_or_later, with_visit}
 use Rattle.search.specs.Games.{GameLaws, Legal, Live, Rules}
 use Rattle.search.specs.Minimax.{Says, worth}
 use Rattle.search.specs.Sets.{SetLaws, Sets}
@@ -18,11 +18,11 @@ says_one a c b w h k = grind arith
 pub same_or_not : (a c : Bool) → (a ≡ c) ⊎ (a ≡ not c)
 same_or_not a c = grind arith
 
-then_stops : (c : Bool) (r later : Count) → r.0 ≡ c → then c r later ≡ (c, r.1)
-then_stops c r later e = grind arith
+first_counts : (c : Bool) (r later : Count) → r.0 ≡ c → first_or_later c r later ≡ (c, r.1)
+first_counts c r later e = grind arith
 
-then_goes_on : (c : Bool) (r later : Count) → r.0 ≡ not c → then c r later ≡ (later.0, r.1 + later.1)
-then_goes_on c r later e = grind arith
+later_counts : (c : Bool) (r later : Count) → r.0 ≡ not c → first_or_later c r later ≡ (later.0, r.1 + later.1)
+later_counts c r later e = grind arith
 
 -- A visit counts itself.
 visit_counts : (o : Option Bool) (moves : Count) → 1 ≤ (with_visit o moves).1
@@ -32,7 +32,7 @@ module _ {P : Type 0} (R : Rules P) (L : GameLaws R) where
   moves_ext : (f g : P → ℕ → Count) (p : P) (b l i : ℕ) → i + l ≡ R.moves p → ((j : ℕ) (c : ℕ) → Legal R p j → f (R.after p j) c ≡ g (R.after p j) c) → bare_moves R f p b l i ≡ bare_moves R g p b l i
   unfolding bare_moves
   moves_ext f g p b zero i e h = refl
-  moves_ext f g p b (suc l) i e h = ap₂ (then (R.counting p)) (h i _ (omega arith)) (moves_ext f g p b l (suc i) (omega arith) h)
+  moves_ext f g p b (suc l) i e h = ap₂ (first_or_later (R.counting p)) (h i _ (omega arith)) (moves_ext f g p b l (suc i) (omega arith) h)
 
   -- More height than is needed changes nothing.
   abbrev Reached : P → Type 0
@@ -77,8 +77,8 @@ module _ {P : Type 0} (R : Rules P) (L : GameLaws R) where
         let later = bare_moves R (bare R) p b l (suc i) in
         let s = h i (omega arith) (rest_of R p b i) in
         elim (same_or_not r.0 (R.counting p)) [
-          | inl d ↦ rw (then_stops (R.counting p) r later d) (move_says R Z L K (R.counting p) p i b refl (omega arith) hb (rw d at s))
-          | inr d ↦ rw (then_goes_on (R.counting p) r later d) (bare_moves_say p b l (suc i) hb hl (omega arith) h
+          | inl d ↦ rw (first_counts (R.counting p) r later d) (move_says R Z L K (R.counting p) p i b refl (omega arith) hb (rw d at s))
+          | inr d ↦ rw (later_counts (R.counting p) r later d) (bare_moves_say p b l (suc i) hb hl (omega arith) h
               (λ j k. below_more (λ j. Says (not (R.counting p)) (rest_of R p b j) (worth R (R.after p j))) i t (rw d at s) j (omega arith)))
         ]
 
@@ -96,8 +96,8 @@ module _ {P : Type 0} (R : Rules P) (L : GameLaws R) where
     -- After a move that settles the visit, the moves behind it are left alone.
     pub left_stops : (p : P) (b l i : ℕ) → Says (R.counting p) (rest_of R p b i) (worth R (R.after p i)) → left p b (suc l) i ≡ bare_visits R (R.after p i) (rest_of R p b i)
     unfolding left bare_moves
-    left_stops p b l i s = ap (λ k. k.1) (then_stops _ _ (bare_moves R (bare R) p b l (suc i)) (says_one _ _ _ _ (bare_says (R.after p i) (rest_of R p b i)) s))
+    left_stops p b l i s = ap (λ k. k.1) (first_counts _ _ (bare_moves R (bare R) p b l (suc i)) (says_one _ _ _ _ (bare_says (R.after p i) (rest_of R p b i)) s))
 
     pub left_goes_on : (p : P) (b l i : ℕ) → Says (not (R.counting p)) (rest_of R p b i) (worth R (R.after p i)) → left p b (suc l) i ≡ bare_visits R (R.after p i) (rest_of R p b i) + left p b l (suc i)
     unfolding left bare_moves
-    left_goes_on p b l i s = ap (λ k. k.1) (then_goes_on _ _ (bare_moves R (bare R) p b l (suc i)) (says_one _ _ _ _ (bare_says (R.after p i) (rest_of R p b i)) s))
+    left_goes_on p b l i s = ap (λ k. k.1) (later_counts _ _ (bare_moves R (bare R) p b l (suc i)) (says_one _ _ _ _ (bare_says (R.after p i) (rest_of R p b i)) s))

@@ -1,12 +1,11 @@
 -- Every visit over a table of true bounds is sound.
-use Rattle.std.proofs.Common.{◌≡◌, ℕ, zero, suc, ◌-◌, ◌<◌, ◌≤◌, Bool, true, false, cond, not, eqb, leb, Some, None, sym, refl, ◌∙◌, subst, ap₂, inl, inr, arith}
+use Rattle.std.proofs.Common.{◌≡◌, ℕ, zero, suc, ◌<◌, ◌≤◌, Bool, cond, not, eqb, Some, None, sym, refl, ◌∙◌, ap₂, inl, inr, arith}
 use Rattle.std.proofs.lemmas.Bool.{cond-true, cond-false, eq-eqb, ne_eqb}
-use Rattle.std.proofs.lemmas.Bool.Decides.{leb_tells, nat_tests}
+use Rattle.std.proofs.lemmas.Bool.Decides.{nat_tests}
 use borrow.Author.Count.{below_none, below_more}
 use mathlib.Core.Bool.{not-not}
 use Rattle.search.specs.declared.entry.Bound.{Bound}
-use Rattle.search.specs.declared.entry.Bound.TheVariants.{Floor, Ceiling}
-use Rattle.search.specs.Entries.{HoldsOf, Decisive, True, bound_of, offer, verdict}
+use Rattle.search.specs.Entries.{HoldsOf, Decisive, bound_of, offer, verdict}
 use Rattle.search.specs.Games.{GameLaws, Legal, Live, Rules}
 use Rattle.search.specs.Minimax.{Says, worth}
 use Rattle.search.specs.Promises.{Sound}

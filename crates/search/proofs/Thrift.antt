@@ -1,5 +1,5 @@
 -- The visits made, held to those of the bare search.
-use Rattle.std.proofs.Common.{◌≡◌, ℕ, suc, ◌+◌, ◌-◌, ◌<◌, ◌≤◌, Bool, true, false, not, ◌↔◌, None, refl, inl, inr, arith}
+use Rattle.std.proofs.Common.{◌≡◌, ℕ, suc, ◌+◌, ◌-◌, ◌<◌, ◌≤◌, Bool, not, ◌↔◌, None, refl, inl, inr, arith}
 use Rattle.search.specs.Bare.{bare_visits}
 use Rattle.search.specs.Entries.{Decisive, bound_of, offer}
 use Rattle.search.specs.Games.{GameLaws, Rules}

@@ -1,5 +1,5 @@
 -- The bare search: visits without look and keep.
-use Rattle.std.specs.Prelude.{◌≡◌, ℕ, zero, suc, ◌+◌, min, Bool, true, cond, not, Some, None, Option}
+use Rattle.std.specs.Prelude.{◌≡◌, ℕ, zero, suc, ◌+◌, min, Bool, true, if◌then◌else◌, not, Some, None, Option}
 use Rattle.std.specs.Bool.{beq}
 use Rattle.search.specs.Games.{Rules}
 use Rattle.search.specs.Minimax.{move, worth}
@@ -13,8 +13,8 @@ Count = Bool × ℕ
 
 -- Side c is to move, first is what the visit after one move came to, and later what the moves behind it come to: those are
 -- left alone where the first answers as the side wants.
-abbrev pub then : Bool → Count → Count → Count
-then c first later = cond (beq first.0 c) (c, first.1) (later.0, first.1 + later.1)
+abbrev pub first_or_later : Bool → Count → Count → Count
+first_or_later c first later = if beq first.0 c then (c, first.1) else (later.0, first.1 + later.1)
 
 -- One visit, and where it is not settled without a move, what its moves come to.
 abbrev pub with_visit : Option Bool → Count → Count
@@ -25,7 +25,7 @@ module _ {P : Type 0} (R : Rules P) where
   -- The bare search of p at b over its moves from i on, of which l are left; child is what it does after each.
   unfoldable pub bare_moves : (P → ℕ → Count) → P → ℕ → ℕ → ℕ → Count
   bare_moves child p b zero i = (not (R.counting p), 0)
-  bare_moves child p b (suc l) i = then (R.counting p) (child (R.after p i) (rest_of R p b i)) (bare_moves child p b l (suc i))
+  bare_moves child p b (suc l) i = first_or_later (R.counting p) (child (R.after p i) (rest_of R p b i)) (bare_moves child p b l (suc i))
 
   -- The bare search of a position of less height than the first number; at 0 there is no such position.
   unfoldable pub bare_within : ℕ → P → ℕ → Count

@@ -1,5 +1,5 @@
 -- The calls of a solver, by the queries that they make.
-use Rattle.std.specs.Prelude.{◌≡◌, ℕ, suc, ◌+◌, ◌-◌, ◌<◌, ◌≤◌, Bool, true, false, cond, not, List, [], ◌∷◌, Some, None, Option, Ok, Err, Result, ◌==◌, nat_lt}
+use Rattle.std.specs.Prelude.{◌≡◌, ℕ, suc, ◌+◌, ◌-◌, ◌<◌, ◌≤◌, Bool, true, false, if◌then◌else◌, not, List, [], ◌∷◌, Some, None, Option, Ok, Err, Result, ◌==◌, nat_lt}
 use Rattle.search.specs.declared.call.Call.{Call}
 use Rattle.search.specs.declared.call.Call.TheVariants.{Query, Solve, Best, Wipe}
 use Rattle.search.specs.declared.call.CallError.{CallError}
@@ -23,14 +23,14 @@ Outcome = Result Reply CallError
 module _ {P : Type 0} (R : Rules P) where
   -- The trail has fewer cells than the position is high, or what else there is to refuse.
   abbrev pub short_trail_or : Option CallError → P → ℕ → Option CallError
-  short_trail_or else p cells = cond (nat_lt cells (R.height p)) (Some ShortTrail) else
+  short_trail_or other p cells = if nat_lt cells (R.height p) then Some ShortTrail else other
 
   -- Why a call is refused, or none. A query, a solve and a best want as many trail cells as the position is high; a best then
   -- also wants a position that is not ended.
   abbrev pub refusal : Call P → Option CallError
   refusal (Query p b cells) = short_trail_or None p cells
   refusal (Solve p cells) = short_trail_or None p cells
-  refusal (Best p cells) = short_trail_or (cond (R.moves p == 0) (Some GameOver) None) p cells
+  refusal (Best p cells) = short_trail_or (if R.moves p == 0 then Some GameOver else None) p cells
   refusal Wipe = None
 
   -- The call is not refused.
