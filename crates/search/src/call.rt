@@ -1,15 +1,15 @@
 ghost use Rattle.std.specs.Prelude.{◌≡◌};
 ghost use Rattle.search.specs.Calls.{number as number_of};
 
-// A call of a solver. Its last number is how many trail cells are lent to it.
+// A call of a solver. `cells` is how many trail cells are lent to it.
 #[derive(Clone, Copy, Debug, PartialEq, Eq)]
 pub enum Call<P> {
     // Is the position worth at least the bound?
-    Query(P, u8, usize),
+    Query { position: P, bound: u8, cells: usize },
     // What is the position worth?
-    Solve(P, usize),
+    Solve { position: P, cells: usize },
     // Which is the first move that reaches what the position is worth?
-    Best(P, usize),
+    Best { position: P, cells: usize },
     // Empty the table.
     Wipe,
 }
