@@ -5,11 +5,21 @@ ghost use Rattle.search.specs.Calls.{number as number_of};
 #[derive(Clone, Copy, Debug, PartialEq, Eq)]
 pub enum Call<P> {
     // Is the position worth at least the bound?
-    Query { position: P, bound: u8, cells: usize },
+    Query {
+        position: P,
+        bound: u8,
+        cells: usize,
+    },
     // What is the position worth?
-    Solve { position: P, cells: usize },
+    Solve {
+        position: P,
+        cells: usize,
+    },
     // Which is the first move that reaches what the position is worth?
-    Best { position: P, cells: usize },
+    Best {
+        position: P,
+        cells: usize,
+    },
     // Empty the table.
     Wipe,
 }
