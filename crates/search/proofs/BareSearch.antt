@@ -18,6 +18,7 @@ says_one a c b w h k = grind arith
 pub same_or_not : (a c : Bool) → (a ≡ c) ⊎ (a ≡ not c)
 same_or_not a c = grind arith
 
+-- The first answer counts where it is as the side wants, and else the moves behind it are tried.
 first_counts : (c : Bool) (r later : Count) → r.0 ≡ c → first_or_later c r later ≡ (c, r.1)
 first_counts c r later e = grind arith
 

@@ -51,10 +51,7 @@ module _ {P S : Type 0} (R : Rules P) (Z : Sets P S) (L : GameLaws R) (K : SetLa
 
   module _ {X : Type 0} (D : Memory P S X) (E : MemoryLaws Z D) where
     refusal_right : (c : Call P) (e : CallError) → refusal R c ≡ Some e → Right R Z D c (Err e)
-    refusal_right (Query p b cells) e h = elim (cases_lt cells (R.height p)) [ inl l ↦ query_short l (grind (arith, nat_tests)) | inr l ↦ absurd (grind (arith, nat_tests)) ]
-    refusal_right (Solve p cells) e h = elim (cases_lt cells (R.height p)) [ inl l ↦ solve_short l (grind (arith, nat_tests)) | inr l ↦ absurd (grind (arith, nat_tests)) ]
-    refusal_right (Best p cells) e h = elim (cases_lt cells (R.height p)) [ inl l ↦ best_short l (grind (arith, nat_tests)) | inr l ↦ best_over l (grind (arith, nat_tests)) (grind (arith, nat_tests)) ]
-    refusal_right Wipe e h = absurd (cc)
+    refusal_right c e h = grind (arith, nat_tests, query_short, solve_short, best_short, best_over)
 
     -- Queries from b on, where the worth is b - 1 at least, find it; of the bare searches at these bounds there are l.
     solving : {p : P} {b : ℕ} {x : X} {w : ℕ} {y : X} {n : ℕ} (k : Solving R Z D p b x w y n) → 0 < b → b - 1 ≤ worth R p → AllTrue R Z D x → (l : ℕ) → l ≡ min (R.top p) (worth R p + 1) + 1 - b → (w ≡ worth R p) × AllTrue R Z D y × Thrifty (bare_from R l p b) n (UnaidedSolving R Z D k)
@@ -135,8 +132,8 @@ module _ {P S : Type 0} (R : Rules P) (Z : Sets P S) (L : GameLaws R) (K : SetLa
     query_made (queried {p = p'} {b = b'} {cells = k'} {x = x} {y = y} {a = a'} {s = s} {n = n} e v) p b k a ec er =
         let ep : p' ≡ p = cc in
         let eb : b' ≡ b = cc in
-        let ea : record { yes = a'; visits = capped n } ≡ a = cc in
-        (a', s, n, subst₂ (λ p b. Visit R Z D p b x a' s y n) ep eb v, sym (ap (λ a. a.visits) ea))
+        let told : a.visits ≡ capped n = cc in
+        (a', s, n, subst₂ (λ p b. Visit R Z D p b x a' s y n) ep eb v, told)
     query_made (solved e k) p b l a ec er = absurd (cc)
     query_made (chosen e k l) p b j a ec er = absurd (cc)
     query_made (wiped w) p b k a ec er = absurd (cc)

@@ -13,11 +13,13 @@ unfolding best_to
 best_ext c v w zero h = h zero (omega arith)
 best_ext c v w (suc n) h = ap₂ (better c) (best_ext c v w n (λ i k. h i (omega arith))) (h (suc n) (omega arith))
 
+-- No number is better than the best.
 best_bounds : (c : Bool) (v : ℕ → ℕ) (n i : ℕ) → i ≤ n → (c ≡ true → v i ≤ best_to c v n) × (c ≡ false → best_to c v n ≤ v i)
 unfolding best_to
 best_bounds c v zero i h = grind arith
 best_bounds c v (suc n) i h = (λ e. grind (arith, best_bounds c v n i), λ e. grind (arith, best_bounds c v n i))
 
+-- The better of two is one of them, and the best of several is one of them.
 better_one : (c : Bool) (a b : ℕ) → (better c a b ≡ a) ⊎ (better c a b ≡ b)
 better_one c a b = grind arith
 
