@@ -1,6 +1,6 @@
 -- The worth follows the rule of minimax, it alone does, and each live position has one move.
 use Rattle.std.proofs.Common.{◌≡◌, ℕ, zero, suc, ◌+◌, ◌<◌, ◌≤◌, Bool, true, false, eqb, ◌⊎◌, sym, refl, ap, ◌∙◌, ap₂, inl, inr, arith}
-use Rattle.std.proofs.lemmas.Bool.{cond_both, eq-eqb, eqb-true}
+use Rattle.std.proofs.lemmas.Bool.{cases_Bool, cond_both, eq-eqb, eqb-true}
 use native.Mathlib.Decide.{dec_lt}
 use Rattle.search.specs.Games.{Ended, GameLaws, Legal, Live, Rules, most_points}
 use Rattle.search.specs.Minimax.{IsMove, Minimax, best_to, better, comes_to, first_to, move, worth, worth_by, worth_within}
@@ -112,15 +112,11 @@ module _ {P : Type 0} (R : Rules P) (L : GameLaws R) where
   worth_rule = record { ended = worth_ended; attained = worth_some; greatest = worth_most; least = worth_least }
 
   -- Two functions that follow the rule agree: neither side can do better in one than in the other.
-  only_live : (v w : P → ℕ) → Minimax R v → Minimax R w → (p : P) (c : Bool) → R.counting p ≡ c → Live R p → ((i : ℕ) → Legal R p i → v (R.after p i) ≤ w (R.after p i)) → v p ≤ w p
-  only_live v w V W p true e l h = let r = V.attained p l in omega (arith, W.greatest p r.0 e r.1, h r.0 r.1, r.2)
-  only_live v w V W p false e l h = let r = W.attained p l in omega (arith, V.least p r.0 e r.1, h r.0 r.1, r.2)
-
   only_under : (v w : P → ℕ) → Minimax R v → Minimax R w → (p : P) → v p ≤ w p
   only_under v w V W =
       by_height (λ p. v p ≤ w p)
       (λ p h. elim (dec_lt 0 (R.moves p)) [
-        | yes l ↦ only_live v w V W p (R.counting p) refl l h
+        | yes l ↦ (let r = V.attained p l in let q = W.attained p l in grind (arith, cases_Bool (R.counting p), W.greatest p r.0, V.least p q.0, h r.0 r.1, h q.0 q.1))
         | no l ↦ omega (arith, V.ended p, W.ended p)
       ])
 
@@ -130,10 +126,7 @@ module _ {P : Type 0} (R : Rules P) (L : GameLaws R) where
   pub worth_top : (p : P) → worth R p ≤ R.top p
   worth_top =
       by_height (λ p. worth R p ≤ R.top p)
-      (λ p h. elim (dec_lt 0 (R.moves p)) [
-        | yes l ↦ (let r = worth_some p l in omega (arith, h r.0 r.1, L.gain_top p r.0 r.1, r.2))
-        | no l ↦ omega (arith, worth_ended p, L.score_top p)
-      ])
+      (λ p h. grind (arith, worth_some p, h, L.gain_top p, worth_ended p, L.score_top p))
 
   pub has_move : (p : P) → Live R p → IsMove R p (move R p)
   unfolding move
