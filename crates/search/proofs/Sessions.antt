@@ -1,11 +1,10 @@
 -- Every list of calls keeps what is promised.
-use Rattle.std.proofs.Common.{◌≡◌, ℕ, suc, ◌+◌, ◌-◌, ◌<◌, ◌≤◌, min, Bool, not, List, Some, Ok, Err, sym, refl, ap, ◌∙◌, subst, subst₂, inl, inr, arith}
-use Rattle.std.proofs.lemmas.Bool.{cases_lt}
+use Rattle.std.proofs.Common.{◌≡◌, ℕ, suc, ◌+◌, ◌-◌, ◌<◌, ◌≤◌, min, Bool, not, List, Some, Ok, Err, refl, ap, ◌∙◌, subst, subst₂, arith}
 use Rattle.std.proofs.lemmas.Bool.Decides.{nat_tests}
 use borrow.Author.Count.{below_none, below_more}
 use Rattle.search.specs.declared.call.Answer.{Answer}
 use Rattle.search.specs.declared.call.Call.{Call}
-use Rattle.search.specs.declared.call.Call.TheVariants.{Query, Solve, Best, Wipe}
+use Rattle.search.specs.declared.call.Call.TheVariants.{Query, Best}
 use Rattle.search.specs.declared.call.CallError.{CallError}
 use Rattle.search.specs.declared.call.Reply.TheVariants.{Answered}
 use Rattle.search.specs.Bare.{bare_after, bare_from, bare_solve, bare_visits}

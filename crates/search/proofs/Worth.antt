@@ -1,7 +1,6 @@
 -- The worth follows the rule of minimax, it alone does, and each live position has one move.
 use Rattle.std.proofs.Common.{◌≡◌, ℕ, zero, suc, ◌+◌, ◌<◌, ◌≤◌, Bool, true, false, eqb, ◌⊎◌, sym, refl, ap, ◌∙◌, ap₂, inl, inr, arith}
 use Rattle.std.proofs.lemmas.Bool.{cases_Bool, cond_both, eq-eqb, eqb-true}
-use native.Mathlib.Decide.{dec_lt}
 use Rattle.search.specs.Games.{Ended, GameLaws, Legal, Live, Rules, most_points}
 use Rattle.search.specs.Minimax.{IsMove, Minimax, best_to, better, comes_to, first_to, move, worth, worth_by, worth_within}
 use Rattle.search.specs.Promises.{WorthRight}
@@ -111,14 +110,11 @@ module _ {P : Type 0} (R : Rules P) (L : GameLaws R) where
   pub worth_rule : Minimax R (worth R)
   worth_rule = record { ended = worth_ended; attained = worth_some; greatest = worth_most; least = worth_least }
 
-  -- Two functions that follow the rule agree: neither side can do better in one than in the other.
+  -- Of two functions that follow the rule neither is ever above the other.
   only_under : (v w : P → ℕ) → Minimax R v → Minimax R w → (p : P) → v p ≤ w p
   only_under v w V W =
       by_height (λ p. v p ≤ w p)
-      (λ p h. elim (dec_lt 0 (R.moves p)) [
-        | yes l ↦ (let r = V.attained p l in let q = W.attained p l in grind (arith, cases_Bool (R.counting p), W.greatest p r.0, V.least p q.0, h r.0 r.1, h q.0 q.1))
-        | no l ↦ omega (arith, V.ended p, W.ended p)
-      ])
+      (λ p h. grind (arith, cases_Bool (R.counting p), V.attained p, W.attained p, W.greatest p, V.least p, h, V.ended p, W.ended p))
 
   pub worth_only : (w : P → ℕ) → Minimax R w → (p : P) → w p ≡ worth R p
   worth_only w W p = omega (arith, only_under w (worth R) W worth_rule p, only_under (worth R) w worth_rule W p)
