@@ -1,5 +1,6 @@
 -- Every visit over a table of true bounds is sound.
-use Rattle.std.proofs.Common.{◌≡◌, ℕ, zero, suc, ◌<◌, ◌≤◌, Bool, cond, not, eqb, Some, None, sym, refl, ◌∙◌, ap₂, inl, inr, arith}
+use Rattle.std.proofs.Common.{◌≡◌, ℕ, zero, suc, ◌<◌, ◌≤◌, Bool, not, Some, None, sym, refl, ◌∙◌, ap₂, inl, inr, arith}
+use Rattle.std.specs.Prelude.{◌==◌, if◌then◌else◌}
 use Rattle.std.proofs.lemmas.Bool.{cond-true, cond-false, eq-eqb, ne_eqb}
 use Rattle.std.proofs.lemmas.Bool.Decides.{nat_tests}
 use borrow.Author.Count.{below_none, below_more}
@@ -28,20 +29,20 @@ pub record Unsettled {P : Type 0} (R : Rules P) (p : P) (b : ℕ) : Type 0 where
   pub live : Live R p
 
 pub unsettled : {P : Type 0} (R : Rules P) (p : P) (b : ℕ) → settled R p b ≡ None → Unsettled R p b
-unsettled R p b e = record { asks = grind (arith, nat_tests); live = grind (arith, nat_tests) }
+unsettled R p b e = grind (arith, nat_tests)
 
 -- The sets of the moves tried so far, and one more.
 module _ {S : Type 0} where
   put : (ℕ → S) → ℕ → S → ℕ → S
-  put U i s k = cond (eqb k i) s (U k)
+  put U i s k = if k == i then s else U k
 
   put_here : (U : ℕ → S) (i : ℕ) (s : S) → put U i s i ≡ s
   unfolding put
-  put_here U i s = cond-true (eqb i i) s (U i) (eq-eqb i i refl)
+  put_here U i s = cond-true (i == i) s (U i) (eq-eqb i i refl)
 
   put_below : (U : ℕ → S) (i : ℕ) (s : S) (k : ℕ) → k < i → put U i s k ≡ U k
   unfolding put
-  put_below U i s k h = cond-false (eqb k i) s (U k) (ne_eqb k i (λ e. omega arith))
+  put_below U i s k h = cond-false (k == i) s (U k) (ne_eqb k i (λ e. omega arith))
 
   put_all : (U : ℕ → S) (i : ℕ) (s : S) (Q : ℕ → S → Type 0) → ((k : ℕ) → k < i → Q k (U k)) → Q i s → (k : ℕ) → k < suc i → Q k (put U i s k)
   put_all U i s Q below here k l =

@@ -1,5 +1,6 @@
 -- The worth follows the rule of minimax, it alone does, and each live position has one move.
-use Rattle.std.proofs.Common.{◌≡◌, ℕ, zero, suc, ◌+◌, ◌<◌, ◌≤◌, Bool, true, false, eqb, ◌⊎◌, sym, refl, ap, ◌∙◌, ap₂, inl, inr, arith}
+use Rattle.std.proofs.Common.{◌≡◌, ℕ, zero, suc, ◌+◌, ◌<◌, ◌≤◌, Bool, true, false, ◌⊎◌, sym, refl, ap, ◌∙◌, ap₂, inl, inr, arith}
+use Rattle.std.specs.Prelude.{◌==◌}
 use Rattle.std.proofs.lemmas.Bool.{cases_Bool, cond_both, eq-eqb, eqb-true}
 use Rattle.search.specs.Games.{Ended, GameLaws, Legal, Live, Rules, most_points}
 use Rattle.search.specs.Minimax.{IsMove, Minimax, best_to, better, comes_to, first_to, move, worth, worth_by, worth_within}
@@ -16,7 +17,7 @@ best_ext c v w (suc n) h = ap₂ (better c) (best_ext c v w n (λ i k. h i (omeg
 best_bounds : (c : Bool) (v : ℕ → ℕ) (n i : ℕ) → i ≤ n → (c ≡ true → v i ≤ best_to c v n) × (c ≡ false → best_to c v n ≤ v i)
 unfolding best_to
 best_bounds c v zero i h = grind arith
-best_bounds c v (suc n) i h = (λ e. grind (arith, best_bounds c v n i), λ e. grind (arith, best_bounds c v n i))
+best_bounds c v (suc n) i h = grind (arith, best_bounds c v n i)
 
 -- The better of two is one of them, and the best of several is one of them.
 better_one : (c : Bool) (a b : ℕ) → (better c a b ≡ a) ⊎ (better c a b ≡ b)
@@ -136,7 +137,7 @@ module _ {P : Type 0} (R : Rules P) (L : GameLaws R) where
       }
     where
       reaching : ℕ → Bool
-      reaching i = eqb (comes_to R p i) (worth R p)
+      reaching i = comes_to R p i == worth R p
 
       found : (i : ℕ) → Legal R p i → comes_to R p i ≡ worth R p → (reaching (first_to reaching (R.moves p)) ≡ true) × (first_to reaching (R.moves p) ≤ i)
       found i h e = first_found reaching (R.moves p) i h (eq-eqb (comes_to R p i) (worth R p) e)
