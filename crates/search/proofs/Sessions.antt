@@ -53,7 +53,7 @@ module _ {P S : Type 0} (R : Rules P) (Z : Sets P S) (L : GameLaws R) (K : SetLa
     refusal_right c e h = grind (arith, nat_tests, query_short, solve_short, best_short, best_over)
 
     -- Queries from b on, where the worth is b - 1 at least, find it; of the bare searches at these bounds there are l.
-    solving : {p : P} {b : ℕ} {x : X} {w : ℕ} {y : X} {n : ℕ} (k : Solving R Z D p b x w y n) → 0 < b → b - 1 ≤ worth R p → AllTrue R Z D x → (l : ℕ) → l ≡ min (R.top p) (worth R p + 1) + 1 - b → (w ≡ worth R p) × AllTrue R Z D y × Thrifty (bare_from R l p b) n (UnaidedSolving R Z D k)
+    solving : {p : P} {b : ℕ} {x : X} {w : ℕ} {y : X} {n : ℕ} (k : Solving R Z D p b x w y n) → 0 < b → b - 1 ≤ worth R p → AllTrue R Z D x → (l : ℕ) → l ≡ min (R.top p) (worth R p + 1) + 1 - b → (w ≡ worth R p) × AllTrue R Z D y × Thrifty (bare_from (bare_visits R p) l b) n (UnaidedSolving R Z D k)
     unfolding bare_from
     solving (past_top {p = p} h) hb hw t l e =
         let d : l ≡ 0 = omega arith in
@@ -73,8 +73,8 @@ module _ {P S : Type 0} (R : Rules P) (Z : Sets P S) (L : GameLaws R) (K : SetLa
     solve_kept {p = p} k t = solving k (omega arith) (omega arith) t (min (R.top p) (worth R p + 1)) (omega arith)
 
     -- Queries after move i and so on, where no move before reaches the worth, find the move.
-    choosing : {p : P} {w i : ℕ} {x : X} {m : ℕ} {y : X} {n : ℕ} (k : Choosing R Z D p w i x m y n) → w ≡ worth R p → Missed p i → AllTrue R Z D x → IsMove R p m × AllTrue R Z D y × (i ≤ m) × Thrifty (bare_after R (suc m - i) p i) n (UnaidedChoosing R Z D k)
-    unfolding bare_after
+    choosing : {p : P} {w i : ℕ} {x : X} {m : ℕ} {y : X} {n : ℕ} (k : Choosing R Z D p w i x m y n) → w ≡ worth R p → Missed p i → AllTrue R Z D x → IsMove R p m × AllTrue R Z D y × (i ≤ m) × Thrifty (bare_from (bare_after R p) (suc m - i) i) n (UnaidedChoosing R Z D k)
+    unfolding bare_from bare_after
     choosing (this_one {p = p} {w = w} {i = i} {n = n} h v) e f t =
         let o = visit_sound R Z L K D E v t in
         let c = subst (λ w. Thrifty (bare_visits R (R.after p i) (aim R p w i)) n (Unaided R Z D v)) e (visit_thrifty R Z L K D E v t) in

@@ -40,25 +40,24 @@ module _ {P : Type 0} (R : Rules P) where
   abbrev pub bare_visits : P → ℕ → ℕ
   bare_visits p b = (bare p b).1
 
+-- The visits of bare searches number i, i + 1 and so on, l of them, where visits tells those of each.
+unfoldable pub bare_from : (ℕ → ℕ) → ℕ → ℕ → ℕ
+bare_from visits zero i = 0
+bare_from visits (suc l) i = visits i + bare_from visits l (suc i)
+
 -- What solve and best would make of bare searches.
 module _ {P : Type 0} (R : Rules P) where
-  -- The visits of the bare searches of p at b, b + 1 and so on, l of them.
-  unfoldable pub bare_from : ℕ → P → ℕ → ℕ
-  bare_from zero p b = 0
-  bare_from (suc l) p b = bare_visits R p b + bare_from l p (suc b)
-
   -- The visits of a solve: at 1, 2 and so on up to one above the worth, which answers no, or up to the top if that is lower.
   abbrev pub bare_solve : P → ℕ
-  bare_solve p = bare_from (min (R.top p) (worth R p + 1)) p 1
+  bare_solve p = bare_from (bare_visits R p) (min (R.top p) (worth R p + 1)) 1
 
-  -- The visits of the bare searches of the positions after moves i, i + 1 and so on, l of them, each at best's bound.
-  unfoldable pub bare_after : ℕ → P → ℕ → ℕ
-  bare_after zero p i = 0
-  bare_after (suc l) p i = bare_visits R (R.after p i) (aim R p (worth R p) i) + bare_after l p (suc i)
+  -- The visits of the bare search of the position after move i, at best's bound.
+  unfoldable pub bare_after : P → ℕ → ℕ
+  bare_after p i = bare_visits R (R.after p i) (aim R p (worth R p) i)
 
   -- The visits of a best: a solve, and then the moves up to the position's move.
   abbrev pub bare_best : P → ℕ
-  bare_best p = bare_solve p + bare_after (move R p + 1) p 0
+  bare_best p = bare_solve p + bare_from (bare_after p) (move R p + 1) 0
 
 -- The table that never holds any entry: looking there and keeping there do nothing.
 abbrev pub nothing_held : {P S : Type 0} → Memory P S (Unit {0})
