@@ -63,7 +63,7 @@ module _ {P S : Type 0} (R : Rules P) (Z : Sets P S) (L : GameLaws R) (K : SetLa
         let c = visit_thrifty R Z L K D E v t in
         let d : l ≡ suc 0 = omega (arith, o.answer) in
         rw d (omega (arith, o.answer), o.kept, record { most = omega (arith, c.most); equal = λ u. omega (arith, c.equal u) })
-    solving (go_on {p = p} {b = b} h v k) hb hw t l e =
+    solving (go_on {p = p} h v k) hb hw t l e =
         let o = visit_sound R Z L K D E v t in
         let r = solving k (omega arith) (omega (arith, o.answer)) o.kept (l - 1) (omega (arith, o.answer)) in
         let d : l ≡ suc (l - 1) = omega (arith, o.answer) in
@@ -98,7 +98,7 @@ module _ {P S : Type 0} (R : Rules P) (Z : Sets P S) (L : GameLaws R) (K : SetLa
       blank_after = λ q. absurd (cc (rw q at h));
       counts = tt;
     }
-    call_kept (queried {p = p} {b = b} {cells = cells} h v) t =
+    call_kept (queried h v) t =
         let o = visit_sound R Z L K D E v t in
         let f = visit_one R Z L K D E v in
         record {
@@ -107,10 +107,10 @@ module _ {P S : Type 0} (R : Rules P) (Z : Sets P S) (L : GameLaws R) (K : SetLa
           blank_after = λ q. absurd (cc);
           counts = (capped_thrifty (visit_thrifty R Z L K D E v t), (λ e. f.0 (omega arith), λ i. omega (arith, f.1 i)));
         }
-    call_kept (solved {p = p} {cells = cells} h k) t =
+    call_kept (solved h k) t =
         let o = solve_kept k t in
         record { right = solves (grind (arith, nat_tests)) o.0; true_after = o.1; blank_after = λ q. absurd (cc); counts = capped_thrifty o.2 }
-    call_kept (chosen {p = p} {cells = cells} {m = m} h k l) t =
+    call_kept (chosen {p = p} {m = m} h k l) t =
         let o = solve_kept k t in
         let w = choosing l o.0 (below_none _) o.1 in
         let d : suc m - 0 ≡ move R p + 1 = omega (arith, one_move R L p m w.0) in
@@ -128,7 +128,7 @@ module _ {P S : Type 0} (R : Rules P) (Z : Sets P S) (L : GameLaws R) (K : SetLa
 
     query_made : {c : Call P} {x : X} {r : Outcome} {y : X} → Does R Z D c x r y → (p : P) (b k : ℕ) (a : Answer) → c ≡ Query p b k → r ≡ Ok (Answered a) → Made p b x a.visits y
     query_made (refused e) p b k a ec er = absurd (cc)
-    query_made (queried {p = p'} {b = b'} {cells = k'} {x = x} {y = y} {a = a'} {s = s} {n = n} e v) p b k a ec er =
+    query_made (queried {p = p'} {b = b'} {x = x} {y = y} {a = a'} {s = s} {n = n} e v) p b k a ec er =
         let ep : p' ≡ p = cc in
         let eb : b' ≡ b = cc in
         let told : a.visits ≡ capped n = cc in

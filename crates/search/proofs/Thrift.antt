@@ -23,7 +23,7 @@ module _ {P S : Type 0} (R : Rules P) (Z : Sets P S) (L : GameLaws R) (K : SetLa
         let c = bare_settled R L p b a e in
         record { most = omega arith; equal = λ _. omega arith }
     visit_thrifty (remembered {p = p} {b = b} {x = x} {e = f} u l) t = record { most = bare_some R L p b; equal = λ h. absurd (h f (E.look_some x p b f l).is_held) }
-    visit_thrifty (by_move {p = p} {b = b} {i = i} {n = n} {m = m} e l r h v k) t =
+    visit_thrifty (by_move {p = p} {b = b} {i = i} e l r h v k) t =
         let t' = (moves_sound R Z L K D E r t).1 in
         let o = visit_sound R Z L K D E v t' in
         let w = visit_thrifty v t' in
@@ -41,7 +41,7 @@ module _ {P S : Type 0} (R : Rules P) (Z : Sets P S) (L : GameLaws R) (K : SetLa
     moves_thrifty (none_yet {p = p} {b = b}) t l e =
         let d : R.moves p ≡ l = omega arith in
         rw d (record { most = omega arith; equal = λ _. omega arith })
-    moves_thrifty (one_more {p = p} {b = b} {i = i} {n = n} {m = m} r h v) t l e =
+    moves_thrifty (one_more {p = p} {b = b} {i = i} r h v) t l e =
         let t' = (moves_sound R Z L K D E r t).1 in
         let o = visit_sound R Z L K D E v t' in
         let w = visit_thrifty v t' in
