@@ -1,10 +1,12 @@
 -- Every visit over a table of true bounds is sound.
-use Rattle.std.proofs.Common.{◌≡◌, ℕ, zero, suc, ◌-◌, ◌<◌, ◌≤◌, Bool, true, false, cond, not, T, eqb, ltb, leb, Some, None, sym, refl, ◌∙◌, subst, ap₂, inl, inr, arith, eqb→eq, ltb→lt, leb→le, nltb→le}
-use lib.Dec.{eqb_refl, nleb→lt}
-use native.Mathlib.Decide.{dec_lt}
+use Rattle.std.proofs.Common.{◌≡◌, ℕ, zero, suc, ◌<◌, ◌≤◌, Bool, not, Some, None, sym, refl, ◌∙◌, ap₂, inl, inr, arith}
+use Rattle.std.specs.Prelude.{◌==◌, if◌then◌else◌}
+use Rattle.std.proofs.lemmas.Bool.{cond-true, cond-false, eq-eqb, ne_eqb}
+use Rattle.std.proofs.lemmas.Bool.Decides.{nat_tests}
+use borrow.Author.Count.{below_none, below_more}
+use mathlib.Core.Bool.{not-not}
 use Rattle.search.specs.declared.entry.Bound.{Bound}
-use Rattle.search.specs.declared.entry.Bound.TheVariants.{Floor, Ceiling}
-use Rattle.search.specs.Entries.{HoldsOf, Decisive, True, bound_of, offer, verdict}
+use Rattle.search.specs.Entries.{HoldsOf, Decisive, bound_of, offer, verdict}
 use Rattle.search.specs.Games.{GameLaws, Legal, Live, Rules}
 use Rattle.search.specs.Minimax.{Says, worth}
 use Rattle.search.specs.Promises.{Sound}
@@ -13,105 +15,51 @@ use Rattle.search.specs.Tables.{AllTrue, Memory, MemoryLaws}
 use Rattle.search.specs.Visits.{Tried, Visit, at_once, by_cover, by_move, none_yet, one_more, remembered, rest_of, settled}
 use Rattle.search.proofs.Worth.{worth_ended, worth_least, worth_most, worth_some, worth_top}
 
-pub some_none : {A : Type 0} {a : A} → Some a ≡ None → ⊥
-some_none e = let z : ◌≡◌ {A = ℕ} 0 1 = cc in omega arith
-
-pub some_same : {A : Type 0} {a b : A} → Some a ≡ Some b → a ≡ b
-some_same e = cc
-
-pub twice_not : (c : Bool) → c ≡ not (not c)
-twice_not true = refl
-twice_not false = refl
-
-leb_says : (b v : ℕ) → Says (leb b v) b v
-leb_says b v = go (leb b v) refl
-  where
-    go : (c : Bool) → leb b v ≡ c → Says c b v
-    go true e = leb→le b v (subst T (sym e) tt)
-    go false e = nleb→lt b v (subst (λ c. T (not c)) (sym e) tt)
-
 -- A true bound that decides b answers right.
 verdict_says : (d : Bound) (b w : ℕ) → HoldsOf d w → Decisive d b → Says (verdict d) b w
-verdict_says (Floor f) b w t d = omega arith
-verdict_says (Ceiling f) b w t d = omega arith
+verdict_says d b w t h = grind arith
 
 -- A right answer gives a true bound.
 says_bounds : (a : Bool) (b w : ℕ) → 0 < b → Says a b w → HoldsOf (bound_of a b) w
-says_bounds true b w h s = s
-says_bounds false b w h s = omega arith
+says_bounds a b w h s = grind arith
 
 -- A visit that is not settled without a move.
 pub record Unsettled {P : Type 0} (R : Rules P) (p : P) (b : ℕ) : Type 0 where
   pub asks : 0 < b
-  pub within : b ≤ R.top p
   pub live : Live R p
 
-not_zero : (n : ℕ) → T (not (eqb n 0)) → 0 < n
-not_zero zero t = absurd t
-not_zero (suc n) t = omega arith
-
 pub unsettled : {P : Type 0} (R : Rules P) (p : P) (b : ℕ) → settled R p b ≡ None → Unsettled R p b
-unsettled R p b = go (eqb b 0) (ltb (R.top p) b) (eqb (R.moves p) 0) refl refl refl
-  where
-    go : (u v w : Bool) → eqb b 0 ≡ u → ltb (R.top p) b ≡ v → eqb (R.moves p) 0 ≡ w → cond u (Some true) (cond v (Some false) (cond w (Some (leb b (R.score p))) None)) ≡ None → Unsettled R p b
-    go true v w eu ev ew e = absurd (some_none e)
-    go false true w eu ev ew e = absurd (some_none e)
-    go false false true eu ev ew e = absurd (some_none e)
-    go false false false eu ev ew e = record {
-      asks = not_zero b (subst (λ c. T (not c)) (sym eu) tt);
-      within = nltb→le (R.top p) b (subst (λ c. T (not c)) (sym ev) tt);
-      live = not_zero (R.moves p) (subst (λ c. T (not c)) (sym ew) tt);
-    }
+unsettled R p b e = grind (arith, nat_tests)
 
 -- The sets of the moves tried so far, and one more.
 module _ {S : Type 0} where
   put : (ℕ → S) → ℕ → S → ℕ → S
-  put U i s k = cond (eqb k i) s (U k)
+  put U i s k = if k == i then s else U k
 
   put_here : (U : ℕ → S) (i : ℕ) (s : S) → put U i s i ≡ s
   unfolding put
-  put_here U i s = go (eqb i i) (eqb_refl i)
-    where
-      go : (c : Bool) → T c → cond c s (U i) ≡ s
-      go true t = refl
-      go false t = absurd t
+  put_here U i s = cond-true (i == i) s (U i) (eq-eqb i i refl)
 
   put_below : (U : ℕ → S) (i : ℕ) (s : S) (k : ℕ) → k < i → put U i s k ≡ U k
   unfolding put
-  put_below U i s k h = go (eqb k i) refl
-    where
-      go : (c : Bool) → eqb k i ≡ c → cond c s (U k) ≡ U k
-      go true e = let q = eqb→eq k i (subst T (sym e) tt) in absurd (omega arith)
-      go false e = refl
+  put_below U i s k h = cond-false (k == i) s (U k) (ne_eqb k i (λ e. omega arith))
 
-  put_all : (U : ℕ → S) (i : ℕ) (s : S) (k : ℕ) → k < suc i → (Q : ℕ → S → Type 0) → (k < i → Q k (U k)) → Q i s → Q k (put U i s k)
-  put_all U i s k l Q below here = elim (dec_lt k i) [
-    | yes m ↦ subst (Q k) (sym (put_below U i s k m)) (below m)
-    | no m ↦ (let e : i ≡ k = omega arith in subst (λ n. Q n (put U i s n)) e (subst (Q i) (sym (put_here U i s)) here))
-  ]
+  put_all : (U : ℕ → S) (i : ℕ) (s : S) (Q : ℕ → S → Type 0) → ((k : ℕ) → k < i → Q k (U k)) → Q i s → (k : ℕ) → k < suc i → Q k (put U i s k)
+  put_all U i s Q below here k l =
+      below_more (λ n. Q n (put U i s n)) i (λ k l. rw (put_below U i s k l) (below k l)) (rw (put_here U i s) here) k (omega arith)
 
 module _ {P S : Type 0} (R : Rules P) (Z : Sets P S) (L : GameLaws R) (K : SetLaws R Z) where
   -- Members of the broad set have the same answer where no move is needed.
   pub settled_says : (p : P) (b : ℕ) (a : Bool) → settled R p b ≡ Some a → (q : P) → In Z (Z.broad p) q → Says a b (worth R q)
-  settled_says p b a = go (eqb b 0) (ltb (R.top p) b) (eqb (R.moves p) 0) refl refl refl
-    where
-      go : (u v w : Bool) → eqb b 0 ≡ u → ltb (R.top p) b ≡ v → eqb (R.moves p) 0 ≡ w → cond u (Some true) (cond v (Some false) (cond w (Some (leb b (R.score p))) None)) ≡ Some a → (q : P) → In Z (Z.broad p) q → Says a b (worth R q)
-      go true v w eu ev ew e q i = subst (λ c. Says c b (worth R q)) (some_same e) (let z = eqb→eq b 0 (subst T (sym eu) tt) in omega arith)
-      go false true w eu ev ew e q i = subst (λ c. Says c b (worth R q)) (some_same e) (omega (arith, worth_top R L q, K.broad_top p q i, ltb→lt (R.top p) b (subst T (sym ev) tt)))
-      go false false true eu ev ew e q i =
-          let r = K.broad_end p q i (eqb→eq (R.moves p) 0 (subst T (sym ew) tt)) in
-          subst (λ c. Says c b (worth R q)) (some_same e) (subst (Says (leb b (R.score p)) b) (sym (worth_ended R L q r.0 ∙ r.1)) (leb_says b (R.score p)))
-      go false false false eu ev ew e q i = absurd (some_none (sym e))
+  settled_says p b a e q i = grind (arith, nat_tests, worth_top R L q, worth_ended R L q, K.broad_top p q i, K.broad_end p q i)
 
   -- A move that answers as the side to move wants answers for the position.
   pub move_says : (c : Bool) (q : P) (j b : ℕ) → R.counting q ≡ c → Legal R q j → 0 < b → Says c (rest_of R q b j) (worth R (R.after q j)) → Says c b (worth R q)
-  move_says true q j b e l h s = omega (arith, worth_most R L q j e l)
-  move_says false q j b e l h s = omega (arith, worth_least R L q j e l)
+  move_says c q j b e l h s = grind (arith, worth_most R L q j, worth_least R L q j)
 
   -- If every move answers as the side to move does not want, so does the position.
   pub moves_say : (c : Bool) (q : P) (b : ℕ) → Live R q → ((j : ℕ) → Legal R q j → Says c (rest_of R q b j) (worth R (R.after q j))) → (R.counting q ≡ not c) → Says c b (worth R q)
-  moves_say true q b l h e = let r = worth_some R L q l in omega (arith, h r.0 r.1, r.2)
-  moves_say false q b l h e = let r = worth_some R L q l in omega (arith, h r.0 r.1, r.2)
+  moves_say c q b l h e = let r = worth_some R L q l in grind (arith, h r.0 r.1, r.2)
 
   cover_ext : (p : P) (n : ℕ) (U V : ℕ → S) → ((k : ℕ) → k < n → U k ≡ V k) → cover_to R Z p U n ≡ cover_to R Z p V n
   cover_ext p zero U V h = refl
@@ -135,7 +83,7 @@ module _ {P S : Type 0} (R : Rules P) (Z : Sets P S) (L : GameLaws R) (K : SetLa
       let w = K.pull_all p i s l o q m in
       let d = w.1 in
       move_says (R.counting p) q d.0 b w.0 d.1 h
-      (subst (λ g. Says (R.counting p) (b - g) (worth R (R.after q d.0))) (sym d.2.0) (f (R.after q d.0) d.2.1))
+      (rw d.2.0 (f (R.after q d.0) d.2.1))
 
   -- The moves before number i were tried and none settles: through which sets they were pulled.
   pub record Failed (p : P) (b i : ℕ) (acc : S) : Type 0 where
@@ -145,7 +93,7 @@ module _ {P S : Type 0} (R : Rules P) (Z : Sets P S) (L : GameLaws R) (K : SetLa
     pub alike : (k : ℕ) → k < i → (q : P) → In Z (through k) q → Says (not (R.counting p)) (rest_of R p b k) (worth R q)
 
   failed_none : (p : P) (b : ℕ) → Failed p b 0 (Z.broad p)
-  failed_none p b = record { through = λ _. Z.broad p; is = refl; own = λ k h. absurd (omega arith); alike = λ k h. absurd (omega arith) }
+  failed_none p b = record { through = λ _. Z.broad p; is = refl; own = below_none _; alike = below_none _ }
 
   failed_more : (p : P) (b i : ℕ) (acc s : S) → Failed p b i acc → In Z s (R.after p i) → ((q : P) → In Z s q → Says (not (R.counting p)) (rest_of R p b i) (worth R q)) → Failed p b (suc i) (joined R Z p i acc (Z.pull p i s))
   failed_more p b i acc s t h f =
@@ -153,18 +101,17 @@ module _ {P S : Type 0} (R : Rules P) (Z : Sets P S) (L : GameLaws R) (K : SetLa
       record {
         through = U;
         is = ap₂ (λ a v. joined R Z p i a (Z.pull p i v)) (t.is ∙ cover_ext p i t.through U (λ k l. sym (put_below t.through i s k l))) (sym (put_here t.through i s));
-        own = λ k l. put_all t.through i s k l (λ n v. In Z v (R.after p n)) (t.own k) h;
-        alike = λ k l. put_all t.through i s k l (λ n v. (q : P) → In Z v q → Says (not (R.counting p)) (rest_of R p b n) (worth R q)) (t.alike k) f;
+        own = put_all t.through i s (λ n v. In Z v (R.after p n)) t.own h;
+        alike = put_all t.through i s (λ n v. (q : P) → In Z v q → Says (not (R.counting p)) (rest_of R p b n) (worth R q)) t.alike f;
       }
 
   -- Members of the cover of moves that all fail have the other answer.
   cover_says : (p : P) (b : ℕ) (acc : S) → Live R p → Failed p b (R.moves p) acc → (q : P) → In Z acc q → Says (not (R.counting p)) b (worth R q)
   cover_says p b acc l t q m =
-      let w = K.cover_all p t.through l t.own q (subst (λ c. In Z c q) t.is m) in
+      let w = K.cover_all p t.through l t.own q (rw t.is at m) in
       moves_say (not (R.counting p)) q b w.1
-      (λ j h. let d = w.2 j h in
-      subst (λ g. Says (not (R.counting p)) (b - g) (worth R (R.after q j))) (sym d.2.0) (t.alike d.0 d.1 (R.after q j) d.2.1))
-      (w.0 ∙ twice_not (R.counting p))
+      (λ j h. let d = w.2 j h in rw d.2.0 (t.alike d.0 d.1 (R.after q j) d.2.1))
+      (w.0 ∙ sym (not-not (R.counting p)))
 
   module _ {X : Type 0} (D : Memory P S X) (E : MemoryLaws Z D) where
     -- A sound answer may be offered to the table.
@@ -175,7 +122,7 @@ module _ {P S : Type 0} (R : Rules P) (Z : Sets P S) (L : GameLaws R) (K : SetLa
       alike = f;
       kept = λ d k. elim (E.keep_adds y (offer s a b) z d w k) [
         | inl o ↦ t d o
-        | inr o ↦ subst (True R Z) (sym o) (λ q j. says_bounds a b (worth R q) h (f q j))
+        | inr o ↦ rw o (λ q j. says_bounds a b (worth R q) h (f q j))
       ];
     }
 
@@ -195,7 +142,7 @@ module _ {P S : Type 0} (R : Rules P) (Z : Sets P S) (L : GameLaws R) (K : SetLa
           let u = unsettled R p b e in
           let o = moves_sound r t in
           offered p b (not (R.counting p)) acc y z u.asks
-          (subst (λ c. In Z c p) (sym o.0.is) (cover_own p (R.moves p) o.0.through (omega arith) o.0.own))
+          (rw o.0.is (cover_own p (R.moves p) o.0.through (omega arith) o.0.own))
           (cover_says p b acc u.live o.0) o.1 k
 
       pub moves_sound : {p : P} {b i : ℕ} {x : X} {acc : S} {y : X} {n : ℕ} → Tried R Z D p b i x acc y n → AllTrue R Z D x → Failed p b i acc × AllTrue R Z D y

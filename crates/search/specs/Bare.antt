@@ -1,5 +1,5 @@
 -- The bare search: visits without look and keep.
-use Rattle.std.specs.Prelude.{◌≡◌, ℕ, zero, suc, ◌+◌, min, Bool, true, cond, not, Some, None, Option}
+use Rattle.std.specs.Prelude.{◌≡◌, ℕ, zero, suc, ◌+◌, min, Bool, true, if◌then◌else◌, not, Some, None, Option}
 use Rattle.std.specs.Bool.{beq}
 use Rattle.search.specs.Games.{Rules}
 use Rattle.search.specs.Minimax.{move, worth}
@@ -13,8 +13,8 @@ Count = Bool × ℕ
 
 -- Side c is to move, first is what the visit after one move came to, and later what the moves behind it come to: those are
 -- left alone where the first answers as the side wants.
-abbrev pub then : Bool → Count → Count → Count
-then c first later = cond (beq first.0 c) (c, first.1) (later.0, first.1 + later.1)
+abbrev pub first_or_later : Bool → Count → Count → Count
+first_or_later c first later = if beq first.0 c then (c, first.1) else (later.0, first.1 + later.1)
 
 -- One visit, and where it is not settled without a move, what its moves come to.
 abbrev pub with_visit : Option Bool → Count → Count
@@ -25,7 +25,7 @@ module _ {P : Type 0} (R : Rules P) where
   -- The bare search of p at b over its moves from i on, of which l are left; child is what it does after each.
   unfoldable pub bare_moves : (P → ℕ → Count) → P → ℕ → ℕ → ℕ → Count
   bare_moves child p b zero i = (not (R.counting p), 0)
-  bare_moves child p b (suc l) i = then (R.counting p) (child (R.after p i) (rest_of R p b i)) (bare_moves child p b l (suc i))
+  bare_moves child p b (suc l) i = first_or_later (R.counting p) (child (R.after p i) (rest_of R p b i)) (bare_moves child p b l (suc i))
 
   -- The bare search of a position of less height than the first number; at 0 there is no such position.
   unfoldable pub bare_within : ℕ → P → ℕ → Count
@@ -40,25 +40,24 @@ module _ {P : Type 0} (R : Rules P) where
   abbrev pub bare_visits : P → ℕ → ℕ
   bare_visits p b = (bare p b).1
 
+-- The visits of bare searches number i, i + 1 and so on, l of them, where visits tells those of each.
+unfoldable pub bare_from : (ℕ → ℕ) → ℕ → ℕ → ℕ
+bare_from visits zero i = 0
+bare_from visits (suc l) i = visits i + bare_from visits l (suc i)
+
 -- What solve and best would make of bare searches.
 module _ {P : Type 0} (R : Rules P) where
-  -- The visits of the bare searches of p at b, b + 1 and so on, l of them.
-  unfoldable pub bare_from : ℕ → P → ℕ → ℕ
-  bare_from zero p b = 0
-  bare_from (suc l) p b = bare_visits R p b + bare_from l p (suc b)
-
   -- The visits of a solve: at 1, 2 and so on up to one above the worth, which answers no, or up to the top if that is lower.
   abbrev pub bare_solve : P → ℕ
-  bare_solve p = bare_from (min (R.top p) (worth R p + 1)) p 1
+  bare_solve p = bare_from (bare_visits R p) (min (R.top p) (worth R p + 1)) 1
 
-  -- The visits of the bare searches of the positions after moves i, i + 1 and so on, l of them, each at best's bound.
-  unfoldable pub bare_after : ℕ → P → ℕ → ℕ
-  bare_after zero p i = 0
-  bare_after (suc l) p i = bare_visits R (R.after p i) (aim R p (worth R p) i) + bare_after l p (suc i)
+  -- The visits of the bare search of the position after move i, at best's bound.
+  unfoldable pub bare_after : P → ℕ → ℕ
+  bare_after p i = bare_visits R (R.after p i) (aim R p (worth R p) i)
 
   -- The visits of a best: a solve, and then the moves up to the position's move.
   abbrev pub bare_best : P → ℕ
-  bare_best p = bare_solve p + bare_after (move R p + 1) p 0
+  bare_best p = bare_solve p + bare_from (bare_after p) (move R p + 1) 0
 
 -- The table that never holds any entry: looking there and keeping there do nothing.
 abbrev pub nothing_held : {P S : Type 0} → Memory P S (Unit {0})

@@ -1,11 +1,11 @@
 -- The calls of a solver, by the queries that they make.
-use Rattle.std.specs.Prelude.{◌≡◌, ℕ, suc, ◌+◌, ◌-◌, ◌<◌, ◌≤◌, Bool, true, false, cond, not, List, [], ◌∷◌, Some, None, Option, ◌==◌, nat_lt}
+use Rattle.std.specs.Prelude.{◌≡◌, ℕ, suc, ◌+◌, ◌-◌, ◌<◌, ◌≤◌, Bool, true, false, if◌then◌else◌, not, List, [], ◌∷◌, Some, None, Option, Ok, Err, Result, ◌==◌, nat_lt}
 use Rattle.search.specs.declared.call.Call.{Call}
 use Rattle.search.specs.declared.call.Call.TheVariants.{Query, Solve, Best, Wipe}
 use Rattle.search.specs.declared.call.CallError.{CallError}
 use Rattle.search.specs.declared.call.CallError.TheVariants.{ShortTrail, GameOver}
 use Rattle.search.specs.declared.call.Reply.{Reply}
-use Rattle.search.specs.declared.call.Reply.TheVariants.{Refused, Answered, Solved, Chosen, Wiped}
+use Rattle.search.specs.declared.call.Reply.TheVariants.{Answered, Solved, Chosen, Wiped}
 use Rattle.search.specs.Games.{Rules, Legal}
 use Rattle.search.specs.Sets.{Sets}
 use Rattle.search.specs.Tables.{Memory}
@@ -16,17 +16,21 @@ abbrev pub number : CallError → ℕ
 number ShortTrail = 1
 number GameOver = 10
 
+-- What a call comes to: a reply, or why it is refused.
+abbrev pub Outcome : Type 0
+Outcome = Result Reply CallError
+
 module _ {P : Type 0} (R : Rules P) where
   -- The trail has fewer cells than the position is high, or what else there is to refuse.
   abbrev pub short_trail_or : Option CallError → P → ℕ → Option CallError
-  short_trail_or else p cells = cond (nat_lt cells (R.height p)) (Some ShortTrail) else
+  short_trail_or other p cells = if nat_lt cells (R.height p) then Some ShortTrail else other
 
   -- Why a call is refused, or none. A query, a solve and a best want as many trail cells as the position is high; a best then
   -- also wants a position that is not ended.
   abbrev pub refusal : Call P → Option CallError
   refusal (Query p b cells) = short_trail_or None p cells
   refusal (Solve p cells) = short_trail_or None p cells
-  refusal (Best p cells) = short_trail_or (cond (R.moves p == 0) (Some GameOver) None) p cells
+  refusal (Best p cells) = short_trail_or (if R.moves p == 0 then Some GameOver else None) p cells
   refusal Wipe = None
 
   -- The call is not refused.
@@ -47,23 +51,23 @@ module _ {P : Type 0} (R : Rules P) where
       this_one : {p : P} {w i : ℕ} {x y : X} {s : S} {n : ℕ} → Legal R p i → Visit R Z D (R.after p i) (aim R p w i) x (R.counting p) s y n → Choosing p w i x i y n
       later_one : {p : P} {w i : ℕ} {x y z : X} {s : S} {m n k : ℕ} → Legal R p i → Visit R Z D (R.after p i) (aim R p w i) x (not (R.counting p)) s y n → Choosing p w (suc i) y m z k → Choosing p w i x m z (n + k)
 
-    -- Does c x r y: the call c finds the table x, replies r and leaves the table y.
-    pub data Does : Call P → X → Reply → X → Type 0 where
+    -- Does c x r y: the call c finds the table x, comes to r and leaves the table y.
+    pub data Does : Call P → X → Outcome → X → Type 0 where
       -- a refusal leaves the table
-      refused : {c : Call P} {x : X} {e : CallError} → refusal c ≡ Some e → Does c x (Refused e) x
+      refused : {c : Call P} {x : X} {e : CallError} → refusal c ≡ Some e → Does c x (Err e) x
       -- a query visits its position at its bound
-      queried : {p : P} {b cells : ℕ} {x y : X} {a : Bool} {s : S} {n : ℕ} → Accepted (Query p b cells) → Visit R Z D p b x a s y n → Does (Query p b cells) x (Answered (record { yes = a; visits = capped n })) y
+      queried : {p : P} {b cells : ℕ} {x y : X} {a : Bool} {s : S} {n : ℕ} → Accepted (Query p b cells) → Visit R Z D p b x a s y n → Does (Query p b cells) x (Ok (Answered (record { yes = a; visits = capped n }))) y
       -- a solve queries from bound 1 on
-      solved : {p : P} {cells : ℕ} {x y : X} {w n : ℕ} → Accepted (Solve p cells) → Solving p 1 x w y n → Does (Solve p cells) x (Solved (record { worth = w; visits = capped n })) y
+      solved : {p : P} {cells : ℕ} {x y : X} {w n : ℕ} → Accepted (Solve p cells) → Solving p 1 x w y n → Does (Solve p cells) x (Ok (Solved (record { worth = w; visits = capped n }))) y
       -- a best solves, and then queries the positions after the moves from move 0 on
-      chosen : {p : P} {cells : ℕ} {x y z : X} {w m n k : ℕ} → Accepted (Best p cells) → Solving p 1 x w y n → Choosing p w 0 y m z k → Does (Best p cells) x (Chosen (record { number = m; worth = w; visits = capped (n + k) })) z
+      chosen : {p : P} {cells : ℕ} {x y z : X} {w m n k : ℕ} → Accepted (Best p cells) → Solving p 1 x w y n → Choosing p w 0 y m z k → Does (Best p cells) x (Ok (Chosen (record { number = m; worth = w; visits = capped (n + k) }))) z
       -- a wipe wipes the table
-      wiped : {x y : X} → D.wipes x y → Does Wipe x Wiped y
+      wiped : {x y : X} → D.wipes x y → Does Wipe x (Ok Wiped) y
 
-    -- Calls x cs rs y: the calls cs, made one after the other from the table x on, get the replies rs and leave the table y.
-    pub data Calls : X → List (Call P) → List Reply → X → Type 0 where
+    -- Calls x cs rs y: the calls cs, made one after the other from the table x on, come to rs and leave the table y.
+    pub data Calls : X → List (Call P) → List Outcome → X → Type 0 where
       done : {x : X} → Calls x [] [] x
-      next : {c : Call P} {cs : List (Call P)} {x y z : X} {r : Reply} {rs : List Reply} → Does c x r y → Calls y cs rs z → Calls x (c ∷ cs) (r ∷ rs) z
+      next : {c : Call P} {cs : List (Call P)} {x y z : X} {r : Outcome} {rs : List Outcome} → Does c x r y → Calls y cs rs z → Calls x (c ∷ cs) (r ∷ rs) z
 
     -- At each visit that was made for a solve, or for finding the move of a best, the table held no entry.
     abbrev pub UnaidedSolving : {p : P} {b : ℕ} {x : X} {w : ℕ} {y : X} {n : ℕ} → Solving p b x w y n → Type 0

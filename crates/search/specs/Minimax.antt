@@ -1,5 +1,5 @@
 -- Plain minimax: what a position is worth, and its move.
-use Rattle.std.specs.Prelude.{◌≡◌, ℕ, zero, suc, ◌+◌, ◌<◌, ◌≤◌, min, max, Bool, true, false, cond, ◌≢◌, nat_eq}
+use Rattle.std.specs.Prelude.{◌≡◌, ℕ, zero, suc, ◌+◌, ◌<◌, ◌≤◌, min, max, Bool, true, false, if◌then◌else◌, ◌≢◌, ◌==◌}
 use Rattle.search.specs.Games.{Rules, Legal, Ended, Live}
 
 -- The rule of minimax, for a function w from positions to numbers.
@@ -25,7 +25,7 @@ best_to c v (suc n) = better c (best_to c v n) (v (suc n))
 -- The first of 0, 1, .. n - 1 at which f is true, or n.
 unfoldable pub first_to : (ℕ → Bool) → ℕ → ℕ
 first_to f zero = zero
-first_to f (suc n) = cond (f zero) zero (suc (first_to (λ i. f (suc i)) n))
+first_to f (suc n) = if f zero then zero else suc (first_to (λ i. f (suc i)) n)
 
 module _ {P : Type 0} (R : Rules P) where
   -- What p is worth by its first n moves, where w says what the positions after them are worth.
@@ -54,7 +54,7 @@ module _ {P : Type 0} (R : Rules P) where
 
   -- The move of a position that is not ended.
   unfoldable pub move : P → ℕ
-  move p = first_to (λ i. nat_eq (comes_to p i) (worth p)) (R.moves p)
+  move p = first_to (λ i. comes_to p i == worth p) (R.moves p)
 
 -- The answer to 'worth at least b' that is right of a worth: yes (true) or no.
 abbrev pub Says : Bool → ℕ → ℕ → Type 0

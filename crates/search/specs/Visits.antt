@@ -1,5 +1,5 @@
 -- A visit by its seven rules.
-use Rattle.std.specs.Prelude.{◌≡◌, ℕ, suc, ◌+◌, ◌-◌, ◌^◌, min, Bool, true, false, cond, not, Some, None, Option, ◌==◌, nat_le, nat_lt}
+use Rattle.std.specs.Prelude.{◌≡◌, ℕ, suc, ◌+◌, ◌-◌, ◌^◌, min, Bool, true, false, if◌then◌else◌, not, Some, None, Option, ◌==◌, nat_le, nat_lt}
 use Rattle.search.specs.declared.entry.Entry.{Entry}
 use Rattle.search.specs.Entries.{offer, verdict}
 use Rattle.search.specs.Games.{Rules, Legal}
@@ -13,7 +13,10 @@ capped n = min n (2 ^ 64 - 1)
 -- The answer of a visit that is settled without a move.
 -- Rule 1: yes at bound 0. Rule 2: no above the top. Rule 3: at the end, yes exactly if the end score reaches the bound.
 abbrev pub settled : {P : Type 0} → Rules P → P → ℕ → Option Bool
-settled R p b = cond (b == 0) (Some true) (cond (nat_lt (R.top p) b) (Some false) (cond (R.moves p == 0) (Some (nat_le b (R.score p))) None))
+settled R p b =
+    if b == 0 then Some true else
+    if nat_lt (R.top p) b then Some false else
+    if R.moves p == 0 then Some (nat_le b (R.score p)) else None
 
 -- The bound at which the position after move i is visited: b less the gain, or 0 if that is negative.
 abbrev pub rest_of : {P : Type 0} → Rules P → P → ℕ → ℕ → ℕ
@@ -22,7 +25,7 @@ rest_of R p b i = b - R.gain p i
 -- The bound at which best asks about move i of p, which is worth w: on the counting side's turn w less the gain, on the
 -- other's w + 1 less the gain, or 0 if that is negative.
 abbrev pub aim : {P : Type 0} → Rules P → P → ℕ → ℕ → ℕ
-aim R p w i = cond (R.counting p) w (w + 1) - R.gain p i
+aim R p w i = (if R.counting p then w else w + 1) - R.gain p i
 
 module _ {P S X : Type 0} (R : Rules P) (Z : Sets P S) (D : Memory P S X) where
   mutual

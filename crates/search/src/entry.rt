@@ -1,8 +1,8 @@
-ghost use Rattle.std.specs.Prelude.{◌≡◌, Decides};
+ghost use Rattle.std.specs.Prelude.{◌≡◌, ◌↔◌, IsTrue};
 ghost use Rattle.search.specs.Entries.{Decisive, bound_of, verdict};
 
 // A bound on what every member of a set is worth.
-#[derive(Clone, Copy)]
+#[derive(Clone, Copy, Debug, PartialEq, Eq)]
 pub enum Bound {
     // At least this.
     Floor(u8),
@@ -24,7 +24,7 @@ impl Bound {
 
     // Whether the bound decides 'worth at least b'.
     pub fn decides(self, b: u8) -> bool
-        ensures { Decides result (Decisive self b) }
+        ensures { IsTrue result ↔ Decisive self b }
     {
         match self {
             Bound::Floor(f) => f >= b,
@@ -36,15 +36,12 @@ impl Bound {
     pub fn is_floor(self) -> bool
         ensures { result ≡ verdict self }
     {
-        match self {
-            Bound::Floor(_) => true,
-            Bound::Ceiling(_) => false,
-        }
+        matches!(self, Bound::Floor(_))
     }
 }
 
 // What a table remembers: a set of positions with a bound on the worth of every member.
-#[derive(Clone, Copy)]
+#[derive(Clone, Copy, Debug, PartialEq, Eq)]
 pub struct Entry<S> {
     pub set: S,
     pub bound: Bound,

@@ -8,7 +8,7 @@ mod game;
 mod table;
 mod theorems;
 
-pub use call::{Answer, BestMove, Call, CallError, Reply, Solution};
+pub use call::{Answer, BestMove, Call, CallError, Outcome, Reply, Solution};
 pub use entry::{Bound, Entry};
 pub use game::{Child, Game, ROW};
 pub use table::Table;

@@ -1,6 +1,6 @@
 // The theorems, for every lawful game and table. Each function does nothing: its contract is the theorem, so that the
 // check asks for the proof.
-ghost use Rattle.search.specs.Promises.{BareRight, SessionsEnd, SessionsKept, VisitsEnd, VisitsRepeat, VisitsSound, VisitsThrifty, WorthRight};
+ghost use Rattle.search.specs.Promises.{BareRight, SessionsRight, VisitsRight, WorthRight};
 
 use crate::game::Game;
 use crate::table::Table;
@@ -17,14 +17,10 @@ pub fn bare_right<G: Game>()
 
 // What every visit over a table of true bounds tells, how many visits it makes, and that it can be made.
 pub fn visits_right<G: Game, T: Table<G>>()
-    ensures sound { VisitsSound G.Game.rules G.Game.sets (T.Table.memory G.Game.sets) }
-    ensures thrifty { VisitsThrifty G.Game.rules G.Game.sets (T.Table.memory G.Game.sets) }
-    ensures repeat { VisitsRepeat G.Game.rules G.Game.sets (T.Table.memory G.Game.sets) }
-    ensures end { VisitsEnd G.Game.rules G.Game.sets (T.Table.memory G.Game.sets) }
+    ensures { VisitsRight G.Game.rules G.Game.sets (T.Table.memory G.Game.sets) }
 {}
 
 // What every list of calls keeps from opening on, and that it can be made.
 pub fn sessions_right<G: Game, T: Table<G>>()
-    ensures kept { SessionsKept G.Game.rules G.Game.sets (T.Table.memory G.Game.sets) }
-    ensures end { SessionsEnd G.Game.rules G.Game.sets (T.Table.memory G.Game.sets) }
+    ensures { SessionsRight G.Game.rules G.Game.sets (T.Table.memory G.Game.sets) }
 {}
