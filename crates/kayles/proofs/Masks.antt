@@ -1,10 +1,12 @@
 -- What a mask says of its pins.
 use Rattle.std.specs.Prelude.{◌≡◌, ℕ, zero, suc, ◌+◌, ◌*◌, ◌/◌, ◌%◌, ◌^◌, ◌<◌, Bool, true, false, cond, List, [], ◌∷◌, ◌++◌, slice_index_or, refl}
-use Rattle.std.proofs.Common.{ap, ap₂, ◌∙◌, arith, pow-suc, shl_exact, shr-shr}
+use Rattle.std.proofs.Common.{ap, ap₂, ◌∙◌, add-one, arith, mul-le-mul_right, pow-suc, pow_mono, shl_exact, shr-shr}
 use Rattle.std.specs.Int.Count.{ones, ones_step}
+use Rattle.kayles.specs.declared.board.Board.{Board}
 use Rattle.kayles.specs.declared.board.Pin.{Pin}
 use Rattle.kayles.specs.declared.board.Pin.TheVariants.{Standing, Down}
-use Rattle.kayles.specs.Rows.{bit, pin_of, pins, upright}
+use Rattle.kayles.specs.Limits.{most_pins}
+use Rattle.kayles.specs.Rows.{bit, pin_of, pins, row, upright}
 
 -- a pin more at the right is a bit more at the top
 pub pins_more : (n m : ℕ) (p : Pin) → m < 2 ^ n → pins (suc n) (m + bit p * 2 ^ n) ≡ pins n m ++ p ∷ []
@@ -20,17 +22,24 @@ pins_more (suc n) m Down h =
     let half : m / 2 ≡ m / 2 + 0 * 2 ^ n = omega arith in
     ap (λ k. pins (suc (suc n)) k) same ∙ ap (λ k. pin_of (m % 2) ∷ pins (suc n) k) half ∙ ap (λ ps. pin_of (m % 2) ∷ ps) (pins_more n (m / 2) Down (omega (arith, pow-suc 2 n)))
 
--- the bit of a pin, shifted to a place on the board, is not cut off, and the mask with it fits one place more
-pub shifted : (n : ℕ) (p : Pin) → n < 32 → (bit p * 2 ^ n) % 4294967296 ≡ bit p * 2 ^ n
-shifted n p h = shl_exact {a = bit p} 1 n 32 (small p) (omega arith)
-  where
-    small : (p : Pin) → bit p < 2 ^ 1
-    small Standing = omega arith
-    small Down = omega arith
+bit_small : (p : Pin) → bit p < 2
+bit_small Standing = omega arith
+bit_small Down = omega arith
 
-pub mask_more : (n m : ℕ) (p : Pin) → m < 2 ^ n → m + bit p * 2 ^ n < 2 ^ suc n
-mask_more n m Standing h = omega (arith, pow-suc 2 n)
-mask_more n m Down h = omega (arith, pow-suc 2 n)
+-- the board with a pin more, as the code computes it from the pin's bit v
+module _ (b : Board) (p : Pin) (v : ℕ) (room : b.count < most_pins) (e : v ≡ bit p) where
+  -- the bit, shifted to its place, is not cut off
+  more : b.standing + (v * 2 ^ b.count) % 4294967296 ≡ b.standing + bit p * 2 ^ b.count
+  more = ap (λ v. b.standing + (v * 2 ^ b.count) % 4294967296) e ∙ ap (◌+◌ b.standing) (shl_exact {a = bit p} 1 b.count 32 (bit_small p) (omega arith))
+
+  pub more_fits : b.standing + (v * 2 ^ b.count) % 4294967296 < 2 ^ (b.count + 1)
+  more_fits = omega (arith, more, b.within, ap (λ n. 2 ^ n) (add-one b.count), pow-suc 2 b.count, mul-le-mul_right {m = bit p} {n = 1} (2 ^ b.count) (omega (arith, bit_small p)))
+
+  pub more_low : b.standing + (v * 2 ^ b.count) % 4294967296 < 4294967296
+  more_low = omega (arith, more_fits, pow_mono {i = b.count + 1} {j = 32} (omega arith))
+
+  pub row_more : pins (b.count + 1) (b.standing + (v * 2 ^ b.count) % 4294967296) ≡ row b ++ p ∷ []
+  row_more = ap₂ pins (add-one b.count) more ∙ pins_more b.count b.standing p b.within
 
 bit_upright : (m : ℕ) (ps : List Pin) → upright (pin_of (m % 2) ∷ ps) ≡ m % 2 + upright ps
 unfolding upright

@@ -1,10 +1,12 @@
 -- Moves on the mask: which can be made, how many there are, and what they leave.
-use Rattle.std.proofs.Common.{◌≡◌, ℕ, zero, suc, ◌+◌, ◌-◌, ◌*◌, ◌/◌, ◌%◌, ◌^◌, ◌<◌, ◌≤◌, min, Bool, true, false, cond, T, eqb, List, [], ◌∷◌, length, sym, refl, ap, ◌∙◌, subst, ap₂, mod-eq_of_lt, mul_assoc, mul_comm, pow-suc, arith, pow_pos, pow_mono, shr-shr}
+use Rattle.std.proofs.Common.{◌≡◌, ℕ, zero, suc, ◌+◌, ◌-◌, ◌*◌, ◌/◌, ◌%◌, ◌^◌, ◌<◌, ◌≤◌, min, Bool, true, false, cond, T, eqb, List, [], ◌∷◌, length, sym, refl, ap, ◌∙◌, subst, ap₂, mod-eq_of_lt, mul_assoc, mul_comm, pow-suc, add-mul, arith, pow_pos, pow_mono, shr-shr}
 use native.Mathlib.Nat.{mod-one, zero-mod}
 use lib.Bits.{and_mask, and_step, bit_and}
 use lib.Count.{ones, ones_step}
 use lib.Pow.{mod-pow-add}
 use Rattle.std.proofs.lemmas.Bool.{eq-eqb, eqb-true}
+use Rattle.std.proofs.lemmas.Nat.{and-not, and_comm, pow-add}
+use Rattle.std.proofs.lemmas.Nat.Bits.{and_high}
 use Rattle.kayles.specs.declared.board.Board.{Board}
 use Rattle.kayles.specs.declared.board.Pin.{Pin}
 use Rattle.kayles.specs.declared.board.Pin.TheVariants.{Standing, Down}
@@ -193,19 +195,34 @@ low_mask : (b : Board) → b.standing < 4294967296
 low_mask b = omega (arith, b.within, pow_mono {i = b.count} {j = 32} b.few)
 
 -- the move that the code takes off the mask
-module _ (b : Board) (k : Knock) (w : ℕ) (is : IsKnock (row b) k) (e : w ≡ 2 ^ k.pins - 1) where
+module _ (b : Board) (k : Knock) (is : IsKnock (row b) k) where
   pub pin_low : (1 ≤ k.pin) × (k.pin - 1 < 32)
   pin_low = let u = knock_up (row b) k is in (u.0, omega (arith, u.0, up_in (k.pin - 1) k.pins (row b) is.some u.1, length-pins b.count b.standing, b.few))
 
-  pub bite_is : (w * 2 ^ (k.pin - 1)) % 4294967296 ≡ bite (k.pin - 1) k.pins
+  -- to clear the bits of the move is to subtract them, since they are all 1
+  cleared : bit_and b.standing (2 ^ 32 - 1 - bite (k.pin - 1) k.pins) ≡ b.standing - bite (k.pin - 1) k.pins
   unfolding bite
-  bite_is =
-      let most = bite_le (k.pin - 1) k.pins b.count b.standing (knock_up (row b) k is).1 in
-      ap (λ v. (v * 2 ^ (k.pin - 1)) % 4294967296) e ∙ mod-eq_of_lt (omega (arith, most, low_mask b))
+  cleared =
+      let u = (knock_up (row b) k is).1 in
+      let i = k.pin - 1 in
+      let low = low_mask b in
+      let most = bite_le i k.pins b.count b.standing u in
+      let whole : 2 ^ k.pins - 1 + 1 ≡ 2 ^ k.pins = omega (arith, pow_pos k.pins) in
+      let is_bite : 2 ^ (k.pins + i) - 2 ^ i ≡ bite i k.pins = omega (arith, pow-add 2 k.pins i, add-mul (2 ^ k.pins - 1) 1 (2 ^ i), ap (λ n. n * 2 ^ i) whole) in
+      omega (
+        arith,
+        and-not 32 (bite i k.pins) b.standing (omega arith) (omega arith),
+        and_comm b.standing (2 ^ 32 - 1 - bite i k.pins),
+        and_comm b.standing (bite i k.pins),
+        ap (bit_and b.standing) is_bite,
+        and_high b.standing k.pins i,
+        ap (λ x. x * 2 ^ i) (up_bits i k.pins b.count b.standing b.within u),
+      )
 
-  pub bite_fits : (w * 2 ^ (k.pin - 1)) % 4294967296 ≤ b.standing
-  bite_fits = omega (arith, bite_is, bite_le (k.pin - 1) k.pins b.count b.standing (knock_up (row b) k is).1)
-
-  pub row_left : pins b.count (b.standing - (w * 2 ^ (k.pin - 1)) % 4294967296) ≡ left_by k (row b)
-  unfolding left_by
-  row_left = ap (λ v. pins b.count (b.standing - v)) bite_is ∙ left_pins (k.pin - 1) k.pins b.count b.standing (knock_up (row b) k is).1
+  pub row_left : (w : ℕ) → w ≡ 2 ^ k.pins - 1 → pins b.count (bit_and b.standing (4294967295 - (w * 2 ^ (k.pin - 1)) % 4294967296)) ≡ left_by k (row b)
+  unfolding left_by bite
+  row_left w e =
+      let u = (knock_up (row b) k is).1 in
+      let i = k.pin - 1 in
+      let whole : (w * 2 ^ i) % 4294967296 ≡ bite i k.pins = ap (λ v. (v * 2 ^ i) % 4294967296) e ∙ mod-eq_of_lt (omega (arith, bite_le i k.pins b.count b.standing u, low_mask b)) in
+      ap (λ v. pins b.count (bit_and b.standing (4294967295 - v))) whole ∙ ap (pins b.count) cleared ∙ left_pins i k.pins b.count b.standing u

@@ -1,18 +1,9 @@
 // The row of pins of a board.
 ghost use Rattle.std.specs.Prelude.{◌≡◌, ◌<◌, ◌≤◌, [], ◌∷◌, ◌++◌, length, Decides, MatchOption};
 ghost use Rattle.kayles.specs.Limits.{most_pins};
-ghost use Rattle.kayles.specs.Rows.{Stands, bit, row, upright};
+ghost use Rattle.kayles.specs.Rows.{Stands, row, upright};
 
 use crate::board::{Board, MOST_PINS, Pin};
-
-fn bit_of(pin: Pin) -> u32
-    ensures { result ≡ bit pin }
-{
-    match pin {
-        Pin::Standing => 1,
-        Pin::Down => 0,
-    }
-}
 
 impl Board {
     // The board of no pins.
@@ -34,7 +25,7 @@ impl Board {
         }
         Some(Board {
             count: self.count + 1,
-            standing: self.standing + (bit_of(pin) << self.count),
+            standing: self.standing + ((pin as u32) << self.count),
         })
     }
 
