@@ -4,3 +4,4 @@ pub mod BareSearch
 pub mod Thrift
 pub mod Sessions
 pub mod Ending
+pub mod SetsByKey

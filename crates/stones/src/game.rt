@@ -6,9 +6,7 @@ use crate::pile::{MOST_STONES, Pile, PileSet};
 use search::{Child, Game, ROW};
 
 // The game: the sides in turn take one stone or two, and the counting side scores what it takes.
-pub struct Stones {
-    pub(crate) unused: u8,
-}
+pub enum Stones {}
 
 impl Game for Stones {
     type Position = Pile;
@@ -38,7 +36,7 @@ impl Game for Stones {
     }
 
     fn after(p: &Pile, m: u8) -> Option<Child<Pile, u8>> {
-        if m >= p.stones.min(2) {
+        if m >= Self::moves(p) {
             return None;
         }
         Some(Child {
@@ -84,7 +82,7 @@ impl Game for Stones {
     }
 
     fn belongs(s: &PileSet, v: &PileSet) -> bool {
-        s.stones == v.stones && s.counting == v.counting
+        s == v
     }
 
     fn broad(p: &Pile) -> PileSet {

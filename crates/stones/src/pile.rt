@@ -14,7 +14,7 @@ pub struct Pile {
 }
 
 // The piles of a size with a side to move, of either colour.
-#[derive(Clone, Copy)]
+#[derive(Clone, Copy, PartialEq, Eq)]
 pub struct PileSet {
     pub(crate) stones: u8,
     pub(crate) counting: bool,
