@@ -1,5 +1,5 @@
 -- What the set of a position names, and who belongs to it.
-use Rattle.std.proofs.Common.{◌≡◌, ℕ, zero, suc, ◌-◌, ◌*◌, ◌/◌, ◌%◌, ◌<◌, ◌≤◌, eqb, ◌⊎◌, List, [], ◌∷◌, sym, refl, ap, ◌∙◌, inl, inr, arith}
+use Rattle.std.proofs.Common.{◌≡◌, ℕ, zero, suc, ◌-◌, ◌*◌, ◌/◌, ◌%◌, ◌<◌, ◌≤◌, eqb, ◌⊎◌, List, [], ◌∷◌, sym, refl, ap, ◌∙◌, subst, inl, inr, arith}
 use Rattle.std.proofs.lemmas.Bool.{cases_lt, cond-false, cond-true, le-ltb, lt-ltb, ne_eqb}
 use Rattle.kayles.specs.declared.board.Pin.{Pin}
 use Rattle.kayles.specs.declared.board.Pin.TheVariants.{Standing, Down}
@@ -7,16 +7,17 @@ use Rattle.kayles.specs.declared.position.Position.{Position}
 use Rattle.kayles.specs.declared.runs.Run.{Run}
 use Rattle.kayles.specs.declared.tally.RunSet.{RunSet}
 use Rattle.kayles.specs.Boards.{row_few}
-use Rattle.kayles.specs.Kayles.{AsManyRuns, Describes, pins_of, set_of}
+use Rattle.kayles.specs.Kayles.{AsManyRuns, Describes, kayles_sets, pins_of, set_of}
 use Rattle.kayles.specs.Limits.{most_pins}
 use Rattle.kayles.specs.Tallies.{HasRuns, all_runs, closed, how_many, named, place, radix, room, runs_from, unit}
 use Rattle.kayles.specs.Laws.Digits.{place_pos, sum_ext}
-use Rattle.kayles.specs.Laws.{in_like, like}
+use Rattle.kayles.specs.Laws.{has_key, own, runs_set, set_runs}
 use Rattle.kayles.proofs.Sorting.{same_runs}
 use Rattle.kayles.specs.Laws.Splitting.{Same, counted, counted_long}
 use Rattle.kayles.specs.Laws.Counting.{many_runs}
 use Rattle.kayles.proofs.Tallying.{runs_listed}
 use Rattle.kayles.specs.Laws.Words.{pins_are, word_pins, word_runs}
+use Rattle.search.specs.Sets.{In}
 
 -- no run has no pins
 none_closed : (i n : ℕ) (rs : List Run) → how_many 0 rs ≡ 0 → how_many 0 (closed i n rs) ≡ 0
@@ -61,7 +62,10 @@ pub described : (p : Position) → Describes p (set_of p)
 described p = record {
   side = refl;
   runs = λ x. many_has (pins_of p) x (named (set_of p) x) (sym (named_runs p x));
-  members = λ q. (λ i. let l = like p q i in (sym l.1, same_as_many (pins_of p) (pins_of q) l.0), λ a. in_like p q (as_many_same (pins_of p) (pins_of q) a.1, sym a.0));
+  members = λ q. (
+    λ i. let e = has_key (set_of p) q i in (sym (ap (λ s. s.counting) e), same_as_many (pins_of p) (pins_of q) (set_runs p q e)),
+    λ a. subst (λ s. In kayles_sets s q) (sym (runs_set p q (as_many_same (pins_of p) (pins_of q) a.1) (sym a.0))) (own q),
+  );
   weight = word_pins (pins_of p) (row_few p.board);
   weighed = word_pins (pins_of p) (row_few p.board) ∙ pins_are (pins_of p) (row_few p.board) ∙ sym (sum_ext suc (named (set_of p)) (λ x. counted x 0 (pins_of p)) most_pins (λ x a b. named_runs p x ∙ many_runs x (pins_of p) a));
 }
