@@ -75,16 +75,9 @@ row_move q j c h t =
 falls : (p : Position) (m : ℕ) → m < length (knocks_of p) → upright (pins_of (after p m)) < upright (pins_of p)
 falls p m h = let r = row_after p m h in omega (arith, ap upright r.4, lower r.0 (suc r.1) (pins_of p) r.3)
 
-bit_low : (a : Bool) → cond a 1 0 ≤ 1
-bit_low a = grind (arith, nat_tests)
-
 bit_back : (c : Bool) → (cond c 1 0 == 1) ≡ c
 bit_back true = refl
 bit_back false = refl
-
--- a position with a move has no end score
-no_score : (n : ℕ) (c : Bool) → 0 < n → ◌≡◌ {A = ℕ} (cond (n == 0 && not c) 1 0) 0
-no_score n c h = grind (arith, nat_tests)
 
 pub words_back : (p : Position) → kayles_rules.position (kayles_rules.row p) ≡ p
 words_back p =
@@ -94,9 +87,9 @@ words_back p =
 pub game_laws : GameLaws kayles_rules
 game_laws = record {
   falls = falls;
-  score_top = λ p e. bit_low (length (knocks_of p) == 0 && not p.counting);
+  score_top = λ p e. grind (arith, nat_tests);
   gain_top = λ p m h. omega arith;
-  no_score = λ p l. no_score (length (knocks_of p)) p.counting l;
+  no_score = λ p l. grind (arith, nat_tests);
   few_moves = λ p. omega (arith, few_knocks p);
   low_top = λ p. omega arith;
   low_height = λ p. omega (arith, upright_le (pins_of p), row_few p.board);
