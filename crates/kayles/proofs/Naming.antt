@@ -1,6 +1,7 @@
 -- What the set of a position names, and who belongs to it.
-use Rattle.std.proofs.Common.{◌≡◌, ℕ, zero, suc, ◌-◌, ◌*◌, ◌/◌, ◌%◌, ◌<◌, ◌≤◌, eqb, ◌⊎◌, List, [], ◌∷◌, sym, refl, ap, ◌∙◌, subst, inl, inr, arith}
-use Rattle.std.proofs.lemmas.Bool.{cases_lt, cond-false, cond-true, le-ltb, lt-ltb, ne_eqb}
+use Rattle.std.proofs.Common.{◌≡◌, ℕ, zero, suc, ◌-◌, ◌*◌, ◌/◌, ◌%◌, ◌<◌, ◌≤◌, ◌⊎◌, List, [], ◌∷◌, sym, refl, ap, ◌∙◌, subst, inl, inr, arith}
+use Rattle.std.proofs.lemmas.Bool.Decides.{nat_tests}
+use Rattle.std.proofs.lemmas.Bool.{cases_lt, cond-false, cond-true, le-ltb, lt-ltb}
 use Rattle.kayles.specs.declared.board.Pin.{Pin}
 use Rattle.kayles.specs.declared.board.Pin.TheVariants.{Standing, Down}
 use Rattle.kayles.specs.declared.position.Position.{Position}
@@ -23,7 +24,7 @@ use Rattle.search.specs.Sets.{In}
 none_closed : (i n : ℕ) (rs : List Run) → how_many 0 rs ≡ 0 → how_many 0 (closed i n rs) ≡ 0
 unfolding closed how_many
 none_closed i zero rs h = h
-none_closed i (suc n) rs h = omega (arith, h, cond-false {A = ℕ} (eqb (suc n) 0) 1 0 (ne_eqb (suc n) 0 (λ e. omega arith)))
+none_closed i (suc n) rs h = grind (arith, nat_tests)
 
 none_from : (i n : ℕ) (ps : List Pin) → how_many 0 (runs_from i n ps) ≡ 0
 unfolding runs_from how_many
@@ -75,7 +76,7 @@ described p = record {
 -- what is left of a run's unit without its pins
 unit_place : (n : ℕ) → 0 < n → unit n - n ≡ room * place (n - 1)
 unit_place zero h = absurd (omega arith)
-unit_place (suc n) h = omega (arith, ap place (let e : n ≡ suc n - 1 = omega arith in e))
+unit_place (suc n) h = grind arith
 
 pub unit_above : (n : ℕ) → 0 < n → 0 < unit n - n
 unit_above n h = omega (arith, unit_place n h, place_pos (n - 1))

@@ -92,7 +92,7 @@ unfolding knocks
 listed ps = record {
   each = λ m h.
       let s = takes 1 ps m h in
-      subst (IsKnock ps) (sym (s.3 ∙ ap (λ k. taking k (suc s.1)) (let e : 1 + s.0 ≡ suc s.0 = omega arith in e))) (up_knock ps s.0 (suc s.1) (omega arith) (omega (arith, s.2)) s.4);
+      subst (IsKnock ps) (sym (s.3 ∙ ap (λ k. taking k (suc s.1)) (omega arith))) (up_knock ps s.0 (suc s.1) (omega arith) (omega (arith, s.2)) s.4);
   order = sorted 1 ps;
   all = λ k i.
       let u = knock_up ps k i in

@@ -23,7 +23,7 @@ leads p k is = record {
 
 -- a standing pin is a move
 standing_knock : (ps : List Pin) (i : ℕ) → Stands ps i → IsKnock ps (taking i 1)
-standing_knock ps i s = record { some = omega arith; few = omega arith; stand = λ j h. subst (Stands ps) (let e : i ≡ j = omega (arith, h.0, h.1) in e) s }
+standing_knock ps i s = record { some = omega arith; few = omega arith; stand = λ j h. subst (Stands ps) (omega (arith, h.0, h.1)) s }
 
 none_stands : (p : Position) → Ended kayles_rules p → (i : ℕ) → Stands (pins_of p) i → ⊥
 none_stands p e i s = let m = (listed (pins_of p)).all (taking i 1) (standing_knock (pins_of p) i s) in omega (arith, m.1)

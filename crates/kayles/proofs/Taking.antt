@@ -4,8 +4,9 @@ use native.Mathlib.Nat.{mod-one, zero-mod}
 use lib.Bits.{and_mask, and_step, bit_and}
 use lib.Count.{ones, ones_step}
 use lib.Pow.{mod-pow-add}
-use Rattle.std.proofs.lemmas.Bool.{eq-eqb, eqb-true}
-use Rattle.std.proofs.lemmas.Nat.{and-not, and_comm, pow-add}
+use Rattle.std.proofs.lemmas.Bool.{cond_both, eq-eqb, eqb-false, eqb-true}
+use Rattle.std.proofs.lemmas.Bool.Decides.{nat_tests}
+use Rattle.std.proofs.lemmas.Nat.{and-not, and_comm, and_shr, pow-add}
 use Rattle.std.proofs.lemmas.Nat.Bits.{and_high}
 use Rattle.kayles.specs.declared.board.Board.{Board}
 use Rattle.kayles.specs.declared.board.Pin.{Pin}
@@ -21,15 +22,11 @@ use Rattle.kayles.specs.Laws.Splitting.{up_after}
 -- ---- n pins from some place on stand where n bits of the mask are 1
 
 low_bits : (m n : ℕ) → m % 2 ^ suc n ≡ (m / 2 % 2 ^ n) * 2 + m % 2
-low_bits m n = ap (λ k. m % 2 ^ k) (let e : suc n ≡ n + 1 = omega arith in e) ∙ mod-pow-add m n 1
+low_bits m n = ap (λ k. m % 2 ^ k) (omega arith) ∙ mod-pow-add m n 1
 
 -- a bit is 1 where its pin stands
 bit_cases : (P : Pin → Type 0) (b : ℕ) → (b ≡ 1 → P Standing) → ((b ≡ 1 → ⊥) → P Down) → P (pin_of b)
-bit_cases P b up down = go (eqb b 1) refl
-  where
-    go : (c : Bool) → eqb b 1 ≡ c → P (cond c Standing Down)
-    go true e = up (eqb-true b 1 e)
-    go false e = down (λ f. subst T e (subst (λ k. T (eqb k 1)) (sym f) tt))
+bit_cases P b up down = cond_both (eqb b 1) Standing Down P (λ e. up (eqb-true b 1 e)) (λ e. down (eqb-false b 1 e))
 
 front_cons : (n m : ℕ) (ps : List Pin) → T (front (suc n) (pin_of (m % 2) ∷ ps)) → (m % 2 ≡ 1) × T (front n ps)
 unfolding front
@@ -51,23 +48,23 @@ bits_front : (k n m : ℕ) → m < 2 ^ n → m % 2 ^ k ≡ 2 ^ k - 1 → T (fron
 unfolding pins front
 bits_front zero n m h e = tt
 bits_front (suc k) zero m h e =
-    let none : m / 2 % 2 ^ k ≡ 0 = ap (λ n. n / 2 % 2 ^ k) (let e : m ≡ 0 = omega arith in e) ∙ zero-mod (2 ^ k) in
+    let none : m / 2 % 2 ^ k ≡ 0 = grind (arith, zero-mod (2 ^ k)) in
     absurd (omega (arith, low_bits m k, pow-suc 2 k, pow_pos k))
 bits_front (suc k) (suc n) m h e =
     cons_front k m (pins n (m / 2)) (omega (arith, low_bits m k, pow-suc 2 k, pow_pos k)) (bits_front k n (m / 2) (omega (arith, pow-suc 2 n)) (omega (arith, low_bits m k, pow-suc 2 k, pow_pos k)))
 
 half_down : (m i : ℕ) → m / 2 ^ suc i ≡ m / 2 / 2 ^ i
-half_down m i = ap (λ n. m / 2 ^ n) (let e : suc i ≡ 1 + i = omega arith in e) ∙ sym (shr-shr m 1 i)
+half_down m i = ap (λ n. m / 2 ^ n) (omega arith) ∙ sym (shr-shr m 1 i)
 
 up_bits : (i k n m : ℕ) → m < 2 ^ n → T (up_after i k (pins n m)) → m / 2 ^ i % 2 ^ k ≡ 2 ^ k - 1
 unfolding pins up_after
-up_bits zero k n m h t = ap (λ x. x % 2 ^ k) (let e : m / 1 ≡ m = omega arith in e) ∙ front_bits k n m h t
+up_bits zero k n m h t = ap (λ x. x % 2 ^ k) (omega arith) ∙ front_bits k n m h t
 up_bits (suc i) k zero m h t = absurd t
 up_bits (suc i) k (suc n) m h t = ap (λ x. x % 2 ^ k) (half_down m i) ∙ up_bits i k n (m / 2) (omega (arith, pow-suc 2 n)) t
 
 bits_up : (i k n m : ℕ) → m < 2 ^ n → i < n → m / 2 ^ i % 2 ^ k ≡ 2 ^ k - 1 → T (up_after i k (pins n m))
 unfolding pins up_after
-bits_up zero k n m h l e = bits_front k n m h (ap (λ x. x % 2 ^ k) (let e : m ≡ m / 1 = omega arith in e) ∙ e)
+bits_up zero k n m h l e = bits_front k n m h (ap (λ x. x % 2 ^ k) (omega arith) ∙ e)
 bits_up (suc i) k zero m h l e = absurd (omega arith)
 bits_up (suc i) k (suc n) m h l e = bits_up i k n (m / 2) (omega (arith, pow-suc 2 n)) (omega arith) (ap (λ x. x % 2 ^ k) (sym (half_down m i)) ∙ e)
 
@@ -76,7 +73,7 @@ module _ (b : Board) (k : Knock) (w : ℕ) (low : 1 ≤ k.pin) (high : k.pin ≤
   pub tested_knock : eqb (bit_and (b.standing / 2 ^ (k.pin - 1)) w) w ≡ true → IsKnock (row b) k
   tested_knock t =
       let ones : b.standing / 2 ^ (k.pin - 1) % 2 ^ k.pins ≡ 2 ^ k.pins - 1 = sym (and_mask (b.standing / 2 ^ (k.pin - 1)) k.pins) ∙ ap (bit_and (b.standing / 2 ^ (k.pin - 1))) (sym e) ∙ eqb-true (bit_and (b.standing / 2 ^ (k.pin - 1)) w) w t ∙ e in
-      subst (λ i. IsKnock (row b) (taking i k.pins)) (let e : suc (k.pin - 1) ≡ k.pin = omega arith in e) (up_knock (row b) (k.pin - 1) k.pins some few (bits_up (k.pin - 1) k.pins b.count b.standing b.within (omega arith) ones))
+      subst (λ i. IsKnock (row b) (taking i k.pins)) (omega arith) (up_knock (row b) (k.pin - 1) k.pins some few (bits_up (k.pin - 1) k.pins b.count b.standing b.within (omega arith) ones))
 
   pub knock_tested : IsKnock (row b) k → eqb (bit_and (b.standing / 2 ^ (k.pin - 1)) w) w ≡ true
   knock_tested is =
@@ -91,11 +88,7 @@ couples (p ∷ ps) = cond (front 2 (p ∷ ps)) 1 0 + couples ps
 
 length-offered : (i n : ℕ) (ps : List Pin) (ks : List Knock) → length (offered i n ps ks) ≡ cond (front n ps) 1 0 + length ks
 unfolding offered
-length-offered i n ps ks = go (front n ps)
-  where
-    go : (c : Bool) → length (cond c (taking i n ∷ ks) ks) ≡ cond c 1 0 + length ks
-    go true = omega arith
-    go false = omega arith
+length-offered i n ps ks = grind (arith, nat_tests)
 
 one_up : (p : Pin) (ps : List Pin) → cond (front 1 (p ∷ ps)) 1 0 + upright ps ≡ upright (p ∷ ps)
 unfolding front upright
@@ -118,10 +111,10 @@ pair_bit n m h = go (front 2 (pins n m)) refl
 
 couples_pins : (n m : ℕ) → m < 2 ^ n → couples (pins n m) ≡ ones (bit_and m (m / 2))
 unfolding pins couples ones
-couples_pins zero m h = ap (λ k. ones (bit_and k (k / 2))) (let e : 0 ≡ m = omega arith in e)
+couples_pins zero m h = grind arith
 couples_pins (suc n) m h =
     let both = and_step m (m / 2) in
-    omega (arith, pair_bit (suc n) m h, couples_pins n (m / 2) (omega (arith, pow-suc 2 n)), ones_step (bit_and m (m / 2)), ap ones (let e : bit_and m (m / 2) / 2 ≡ bit_and (m / 2) (m / 2 / 2) = omega arith in e))
+    omega (arith, pair_bit (suc n) m h, couples_pins n (m / 2) (omega (arith, pow-suc 2 n)), ones_step (bit_and m (m / 2)), ap ones (and_shr m (m / 2) 1))
 
 pub knocks_ones : (b : Board) → ones b.standing + ones (bit_and b.standing (b.standing / 2)) ≡ length (knocks (row b))
 unfolding knocks

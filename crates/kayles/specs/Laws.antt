@@ -32,11 +32,7 @@ use Rattle.search.proofs.SetsByKey.{ByKey, laws_by_key}
 
 offered_few : (i n : ℕ) (ps : List Pin) (ks : List Knock) → length (offered i n ps ks) ≤ suc (length ks)
 unfolding offered
-offered_few i n ps ks = go (front n ps)
-  where
-    go : (c : Bool) → length (cond c (taking i n ∷ ks) ks) ≤ suc (length ks)
-    go true = omega arith
-    go false = omega arith
+offered_few i n ps ks = grind (arith, nat_tests)
 
 -- no pin begins more than two moves
 few_from : (i : ℕ) (ps : List Pin) → length (knocks_from i ps) ≤ 2 * length ps
@@ -54,7 +50,7 @@ after p m = played p (slice_index_or (knocks_of p) m no_knock)
 
 row_left : (p : Position) (j c : ℕ) → pins_of (played p (taking (1 + j) c)) ≡ fallen_after j c (pins_of p)
 unfolding left_by
-row_left p j c = pins_mask _ ∙ ap (λ i. fallen_after i c (pins_of p)) (let e : 1 + j - 1 ≡ j = omega arith in e)
+row_left p j c = pins_mask _ ∙ ap (λ i. fallen_after i c (pins_of p)) (omega arith)
 
 -- its row is the row with one or two pins down
 row_after : (p : Position) (m : ℕ) → m < length (knocks_of p) → (j : ℕ) × (c : ℕ) × (c < 2) × T (up_after j (suc c) (pins_of p)) × (pins_of (after p m) ≡ fallen_after j (suc c) (pins_of p))

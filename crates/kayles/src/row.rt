@@ -25,7 +25,7 @@ impl Board {
         }
         Some(Board {
             count: self.count + 1,
-            standing: self.standing + ((pin as u32) << self.count),
+            standing: self.standing | (pin as u32) << self.count,
         })
     }
 

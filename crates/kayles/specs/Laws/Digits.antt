@@ -21,7 +21,7 @@ place_pos (suc n) = mul-pos (place_pos n) (omega arith)
 -- a lower place divides a higher one
 place_split : (j n : ℕ) → j ≤ n → (c : ℕ) × (place n ≡ place j * c)
 unfolding place
-place_split j zero h = (1, ap place (let e : 0 ≡ j = omega arith in e) ∙ sym (mul-one (place j)))
+place_split j zero h = (1, grind arith)
 place_split j (suc n) h = go (λ l. place_split j n l) (cases_lt j (suc n))
   where
     go : (j ≤ n → (c : ℕ) × (place n ≡ place j * c)) → (j < suc n) ⊎ (suc n ≤ j) → (c : ℕ) × (place (suc n) ≡ place j * c)
@@ -51,12 +51,12 @@ digit_at f j (suc n) s h = go (digit_at f j n s) (cases_lt j n)
     -- the highest
     top : digits f (suc n) / place n % radix (suc n) ≡ f (suc n)
     top =
-        ap (λ k. k / place n % radix (suc n)) (let e : digits f n + f (suc n) * place n ≡ f (suc n) * place n + digits f n = omega arith in e)
+        ap (λ k. k / place n % radix (suc n)) (omega arith)
         ∙ ap (λ k. k % radix (suc n)) (digits_div (f (suc n)) (digits_lt f n s))
         ∙ mod-eq_of_lt (s (suc n) (omega arith))
 
     go : (j < n → digits f n / place j % radix (suc j) ≡ f (suc j)) → (j < n) ⊎ (n ≤ j) → digits f (suc n) / place j % radix (suc j) ≡ f (suc j)
-    go ih (inr l) = subst (λ k. digits f (suc n) / place k % radix (suc k) ≡ f (suc k)) (let e : n ≡ j = omega arith in e) top
+    go ih (inr l) = subst (λ k. digits f (suc n) / place k % radix (suc k) ≡ f (suc k)) (omega arith) top
     go ih (inl l) =
         let d = place_split (suc j) n (omega arith) in
         ap (λ k. (digits f n + k) / place j % radix (suc j)) (regroup (f (suc n)) (place n) (place j) (radix (suc j)) d.0 d.1)
@@ -86,15 +86,9 @@ module _ (w : ℕ → ℕ) where
   sum_none : (l n : ℕ) → n ≤ l → sum_to w (λ x. one x (suc l)) n ≡ 0
   unfolding sum_to
   sum_none l zero h = refl
-  sum_none l (suc n) h = omega (arith, sum_none l n (omega arith), ap (λ k. k * w n) (one_off (suc n) (suc l) (omega arith)))
+  sum_none l (suc n) h = grind (arith, sum_none l n, one_off (suc n) (suc l))
 
   pub sum_one : (l n : ℕ) → l < n → sum_to w (λ x. one x (suc l)) n ≡ w l
   unfolding sum_to
   sum_one l zero h = absurd (omega arith)
-  sum_one l (suc n) h = go (sum_one l n) (cases_lt l n)
-    where
-      go : (l < n → sum_to w (λ x. one x (suc l)) n ≡ w l) → (l < n) ⊎ (n ≤ l) → sum_to w (λ x. one x (suc l)) n + one (suc n) (suc l) * w n ≡ w l
-      go ih (inl k) = omega (arith, ih k, ap (λ k. k * w n) (one_off (suc n) (suc l) (omega arith)))
-      go ih (inr k) =
-          let e : n ≡ l = omega arith in
-          omega (arith, sum_none l n k, ap (λ m. m * w n) (ap (λ m. one (suc n) (suc m)) (sym e) ∙ one_self (suc n)), ap w e)
+  sum_one l (suc n) h = grind (arith, sum_one l n, sum_none l n, one_off (suc n) (suc l), one_self (suc n))

@@ -43,9 +43,9 @@ pub takes : (i : ℕ) (ps : List Pin) (m : ℕ) → m < length (knocks_from i ps
 unfolding knocks_from up_after
 takes i [] m h = absurd (omega arith)
 takes i (p ∷ ps) m h =
-    offered_each (Takes i (p ∷ ps)) i 1 (p ∷ ps) (offered i 2 (p ∷ ps) (knocks_from (suc i) ps)) (λ t. (0, 0, omega arith, ap (λ k. taking k 1) (let e : i ≡ i + 0 = omega arith in e), t))
-    (offered_each (Takes i (p ∷ ps)) i 2 (p ∷ ps) (knocks_from (suc i) ps) (λ t. (0, 1, omega arith, ap (λ k. taking k 2) (let e : i ≡ i + 0 = omega arith in e), t))
-    (λ m h. let s = takes (suc i) ps m h in (suc s.0, s.1, s.2, s.3 ∙ ap (λ k. taking k (suc s.1)) (let e : suc i + s.0 ≡ i + suc s.0 = omega arith in e), s.4)))
+    offered_each (Takes i (p ∷ ps)) i 1 (p ∷ ps) (offered i 2 (p ∷ ps) (knocks_from (suc i) ps)) (λ t. (0, 0, omega arith, ap (λ k. taking k 1) (omega arith), t))
+    (offered_each (Takes i (p ∷ ps)) i 2 (p ∷ ps) (knocks_from (suc i) ps) (λ t. (0, 1, omega arith, ap (λ k. taking k 2) (omega arith), t))
+    (λ m h. let s = takes (suc i) ps m h in (suc s.0, s.1, s.2, s.3 ∙ ap (λ k. taking k (suc s.1)) (omega arith), s.4)))
     m h
 
 pub taken : (i j c : ℕ) (ps : List Pin) → c < 2 → T (up_after j (suc c) ps) → Has (knocks_from i ps) (taking (i + j) (suc c))
@@ -53,11 +53,11 @@ unfolding knocks_from up_after front
 taken i zero c [] h t = absurd t
 taken i (suc j) c [] h t = absurd t
 taken i zero zero (p ∷ ps) h t =
-    subst (Has (knocks_from i (p ∷ ps))) (ap (λ k. taking k 1) (let e : i ≡ i + 0 = omega arith in e)) (offered_here i 1 (p ∷ ps) (offered i 2 (p ∷ ps) (knocks_from (suc i) ps)) t)
+    subst (Has (knocks_from i (p ∷ ps))) (ap (λ k. taking k 1) (omega arith)) (offered_here i 1 (p ∷ ps) (offered i 2 (p ∷ ps) (knocks_from (suc i) ps)) t)
 taken i zero (suc zero) (p ∷ ps) h t =
-    subst (Has (knocks_from i (p ∷ ps))) (ap (λ k. taking k 2) (let e : i ≡ i + 0 = omega arith in e))
+    subst (Has (knocks_from i (p ∷ ps))) (ap (λ k. taking k 2) (omega arith))
     (offered_keeps i 1 (p ∷ ps) (offered i 2 (p ∷ ps) (knocks_from (suc i) ps)) (taking i 2) (offered_here i 2 (p ∷ ps) (knocks_from (suc i) ps) t))
 taken i zero (suc (suc c)) (p ∷ ps) h t = absurd (omega arith)
 taken i (suc j) c (p ∷ ps) h t =
-    subst (Has (knocks_from i (p ∷ ps))) (ap (λ k. taking k (suc c)) (let e : suc i + j ≡ i + suc j = omega arith in e))
+    subst (Has (knocks_from i (p ∷ ps))) (ap (λ k. taking k (suc c)) (omega arith))
     (offered_keeps i 1 (p ∷ ps) (offered i 2 (p ∷ ps) (knocks_from (suc i) ps)) (taking (suc i + j) (suc c)) (offered_keeps i 2 (p ∷ ps) (knocks_from (suc i) ps) (taking (suc i + j) (suc c)) (taken (suc i) j c ps h t)))

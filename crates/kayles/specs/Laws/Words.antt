@@ -35,7 +35,7 @@ unfolding how_many one
 single w n r rs a b =
     sum_add w (λ x. one x r.len) (λ x. how_many x rs) n
     ∙ ap (λ k. k + sum_to w (λ x. how_many x rs) n)
-    (ap (λ l. sum_to w (λ x. one x l) n) (let e : r.len ≡ suc (r.len - 1) = omega arith in e) ∙ sum_one w (r.len - 1) n (omega arith))
+    (ap (λ l. sum_to w (λ x. one x l) n) (omega arith) ∙ sum_one w (r.len - 1) n (omega arith))
 
 no_runs : (w : ℕ → ℕ) (n : ℕ) → sum_to w (λ x. how_many x []) n ≡ 0
 unfolding how_many
@@ -43,7 +43,7 @@ no_runs w n = sum_zero w n
 
 unit_is : (x : ℕ) → 0 < x → unit x ≡ x + room * place (x - 1)
 unit_is zero h = absurd (omega arith)
-unit_is (suc n) h = ap (λ k. suc n + room * place k) (let e : n ≡ suc n - 1 = omega arith in e)
+unit_is (suc n) h = grind arith
 
 word_split : (n : ℕ) (rs : List Run) → Lens n rs → word_of rs ≡ together rs + room * digits (λ x. how_many x rs) n
 unfolding word_of together
@@ -89,7 +89,7 @@ word_pins ps h = omega (arith, word_is ps h, pins_few ps h)
 pub word_runs : (ps : List Pin) → length ps ≤ most_pins → (j : ℕ) → j < most_pins → word ps / (room * place j) % radix (suc j) ≡ counted (suc j) 0 ps
 word_runs ps h j l =
     ap (λ k. k % radix (suc j)) (sym (div-div-eq-div-mul (word ps) room (place j)))
-    ∙ ap (λ k. k / place j % radix (suc j)) (let e : word ps / room ≡ digits (λ x. counted x 0 ps) most_pins = omega (arith, word_is ps h, pins_few ps h) in e)
+    ∙ ap (λ k. k / place j % radix (suc j)) (omega (arith, word_is ps h, pins_few ps h))
     ∙ digit_at (λ x. counted x 0 ps) j most_pins (small ps h) l
 
 place_top : place most_pins ≡ 3929688716083200

@@ -1,17 +1,16 @@
 use Rattle.std.proofs.Common.{arith}
 use Rattle.kayles.specs.Boards.{length-pins}
-use Rattle.kayles.proofs.Masks.{more_fits, more_low, row_more}
+use Rattle.kayles.proofs.Masks.{more_fits, row_more}
 use Rattle.kayles.proofs.board.Board.with.Goals as goal
 
 pub returns-then-self-ge-MOST_PINS : goal.returns-then-self-ge-MOST_PINS
 returns-then-self-ge-MOST_PINS c = omega (arith, length-pins c.args.self.count c.args.self.standing, c.args.self.few)
 
-pub overflow_add-result-2 : goal.overflow_add-result-2
-overflow_add-result-2 c = omega (arith, more_low c.args.self c.args.pin c.match-pin.result c.if-self-ge-MOST_PINS.false (grind arith))
-
 pub invariant_of-result : goal.invariant_of-result
-invariant_of-result c = record { few = omega (arith, c.if-self-ge-MOST_PINS.false); within = more_fits c.args.self c.args.pin c.match-pin.result c.if-self-ge-MOST_PINS.false (grind arith) }
+invariant_of-result c = record { few = omega (arith, c.if-self-ge-MOST_PINS.false); within = more_fits c.args.self c.match-pin.result c.if-self-ge-MOST_PINS.false (grind arith) }
 
 pub returns : goal.returns
-returns c =
-    (omega (arith, length-pins c.args.self.count c.args.self.standing, c.if-self-ge-MOST_PINS.false), row_more c.args.self c.args.pin c.match-pin.result c.if-self-ge-MOST_PINS.false (grind arith))
+returns c = (
+  omega (arith, length-pins c.args.self.count c.args.self.standing, c.if-self-ge-MOST_PINS.false),
+  row_more c.args.self c.match-pin.result c.if-self-ge-MOST_PINS.false (grind arith) c.args.pin (grind arith),
+)
