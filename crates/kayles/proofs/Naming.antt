@@ -1,7 +1,7 @@
 -- What the set of a position names, and who belongs to it.
 use Rattle.std.proofs.Common.{◌≡◌, ℕ, zero, suc, ◌-◌, ◌*◌, ◌/◌, ◌%◌, ◌<◌, ◌≤◌, ◌⊎◌, List, [], ◌∷◌, sym, refl, ap, ◌∙◌, subst, inl, inr, arith}
 use Rattle.std.proofs.lemmas.Bool.Decides.{nat_tests}
-use Rattle.std.proofs.lemmas.Bool.{cases_lt, cond-false, cond-true, le-ltb, lt-ltb}
+use Rattle.std.proofs.lemmas.Bool.{cases_lt}
 use Rattle.kayles.specs.declared.board.Pin.{Pin}
 use Rattle.kayles.specs.declared.board.Pin.TheVariants.{Standing, Down}
 use Rattle.kayles.specs.declared.position.Position.{Position}
@@ -39,11 +39,11 @@ none ps = none_from 1 0 ps
 -- the digit for each length
 pub named_runs : (p : Position) (x : ℕ) → named (set_of p) x ≡ how_many x (all_runs (pins_of p))
 named_runs p zero = sym (none (pins_of p))
-named_runs p (suc n) = go (cases_lt n most_pins) ∙ sym (many_runs (suc n) (pins_of p) (omega arith))
-  where
-    go : (n < most_pins) ⊎ (most_pins ≤ n) → named (set_of p) (suc n) ≡ counted (suc n) 0 (pins_of p)
-    go (inl h) = cond-true _ _ _ (lt-ltb n most_pins h) ∙ word_runs (pins_of p) (row_few p.board) n h
-    go (inr h) = cond-false _ _ _ (le-ltb n most_pins h) ∙ sym (counted_long (suc n) 0 (pins_of p) (omega (arith, row_few p.board)))
+named_runs p (suc n) =
+    elim (cases_lt n most_pins) [
+      | inl h ↦ grind (arith, nat_tests, word_runs (pins_of p) (row_few p.board) n h, many_runs (suc n) (pins_of p))
+      | inr h ↦ grind (arith, nat_tests, counted_long (suc n) 0 (pins_of p), row_few p.board, many_runs (suc n) (pins_of p))
+    ]
 
 -- a row has one number of runs of each length
 pub has_many : (ps : List Pin) (x n : ℕ) → HasRuns ps x n → how_many x (all_runs ps) ≡ n
@@ -83,12 +83,8 @@ unit_above n h = omega (arith, unit_place n h, place_pos (n - 1))
 
 pub read_digit : (s : RunSet) (n u : ℕ) → 0 < n → n ≤ most_pins → u ≡ unit n → s.word / (u - n) % radix n ≡ named s n
 read_digit s zero u a b e = absurd (omega arith)
-read_digit s (suc n) u a b e = ap (λ k. s.word / k % radix (suc n)) (ap (λ k. k - suc n) e ∙ left) ∙ sym (cond-true _ _ _ (lt-ltb n most_pins b))
-  where
-    left : unit (suc n) - suc n ≡ room * place n
-    left = omega arith
+read_digit s (suc n) u a b e = grind (arith, nat_tests)
 
 pub read_none : (s : RunSet) (n : ℕ) → (n ≡ 0) ⊎ (most_pins < n) → 0 ≡ named s n
 read_none s zero d = refl
-read_none s (suc n) (inl e) = absurd (omega arith)
-read_none s (suc n) (inr h) = sym (cond-false _ _ _ (le-ltb n most_pins (omega arith)))
+read_none s (suc n) d = grind (arith, nat_tests)

@@ -1,11 +1,12 @@
 -- The rules are those of the game.
-use Rattle.std.proofs.Common.{◌≡◌, ℕ, zero, suc, Bool, true, false, cond, not, ◌&&◌, eqb, List, length, get_or, sym, refl, ◌∙◌, subst, ap₂, arith}
+use Rattle.std.proofs.Common.{◌≡◌, ℕ, Bool, true, false, cond, not, ◌&&◌, eqb, List, length, sym, refl, ◌∙◌, subst, ap₂, arith, inl, inr}
+use Rattle.std.proofs.lemmas.Bool.{cases_eq}
 use Rattle.kayles.specs.declared.board.Pin.{Pin}
 use Rattle.kayles.specs.declared.position.Knock.{Knock}
 use Rattle.kayles.specs.declared.position.Position.{Position}
 use Rattle.kayles.specs.Boards.{row_few}
 use Rattle.kayles.specs.Kayles.{kayles_rules, knock_of, knocks_of, pins_of, played}
-use Rattle.kayles.specs.Play.{IsKnock, Leaves, left_by, no_knock, taking}
+use Rattle.kayles.specs.Play.{IsKnock, Leaves, left_by, taking}
 use Rattle.kayles.specs.Promises.{LeadsTo, RulesRight, SetsRight}
 use Rattle.kayles.specs.Rows.{Stands}
 use Rattle.kayles.specs.Laws.{game_laws}
@@ -15,7 +16,7 @@ use Rattle.kayles.specs.Laws.Rebuilding.{board_is, pins_mask, same_position}
 use Rattle.kayles.proofs.Sorting.{same_knocks}
 use Rattle.search.specs.Games.{Ended}
 
-leads : (p : Position) (k : Knock) → IsKnock (pins_of p) k → LeadsTo p k (played p k)
+pub leads : (p : Position) (k : Knock) → IsKnock (pins_of p) k → LeadsTo p k (played p k)
 leads p k is = record {
   row = subst (Leaves (pins_of p) k) (sym (pins_mask (left_by k (pins_of p)))) (leaves (pins_of p) k (knock_up (pins_of p) k is).0);
   turn = refl;
@@ -29,13 +30,10 @@ none_stands : (p : Position) → Ended kayles_rules p → (i : ℕ) → Stands (
 none_stands p e i s = let m = (listed (pins_of p)).all (taking i 1) (standing_knock (pins_of p) i s) in omega (arith, m.1)
 
 no_move : (p : Position) → ((i : ℕ) → Stands (pins_of p) i → ⊥) → Ended kayles_rules p
-no_move p none = go (length (knocks_of p)) refl
-  where
-    go : (n : ℕ) → length (knocks_of p) ≡ n → length (knocks_of p) ≡ 0
-    go zero e = e
-    go (suc n) e =
-        let k = (listed (pins_of p)).each 0 (omega arith) in
-        absurd (none (get_or (knocks_of p) 0 no_knock).pin (k.stand (get_or (knocks_of p) 0 no_knock).pin (omega arith, omega (arith, k.some))))
+no_move p none = elim (cases_eq (length (knocks_of p)) 0) [
+  | inl e ↦ e
+  | inr n ↦ let k = (listed (pins_of p)).each 0 (omega arith) in absurd (none (knock_of p 0).pin (k.stand (knock_of p 0).pin (omega arith, omega (arith, k.some))))
+]
 
 end_score : (p : Position) (c : Bool) → Ended kayles_rules p → p.counting ≡ c → kayles_rules.score p ≡ cond (not c) 1 0
 end_score p c e f = ap₂ (λ n c. cond (eqb n 0 && not c) 1 0) e f

@@ -1,5 +1,5 @@
 -- Moves on the mask: which can be made, how many there are, and what they leave.
-use Rattle.std.proofs.Common.{◌≡◌, ℕ, zero, suc, ◌+◌, ◌-◌, ◌*◌, ◌/◌, ◌%◌, ◌^◌, ◌<◌, ◌≤◌, min, Bool, true, false, cond, T, eqb, List, [], ◌∷◌, length, sym, refl, ap, ◌∙◌, subst, ap₂, mod-eq_of_lt, mul_assoc, mul_comm, pow-suc, add-mul, arith, pow_pos, pow_mono, shr-shr}
+use Rattle.std.proofs.Common.{◌≡◌, ℕ, zero, suc, ◌+◌, ◌-◌, ◌*◌, ◌/◌, ◌%◌, ◌^◌, ◌<◌, ◌≤◌, min, true, cond, T, eqb, List, [], ◌∷◌, length, sym, refl, ap, ◌∙◌, subst, mod-eq_of_lt, pow-suc, arith, pow_pos, pow_mono, shr-shr}
 use native.Mathlib.Nat.{mod-one, zero-mod}
 use lib.Bits.{and_mask, and_step, bit_and}
 use lib.Count.{ones, ones_step}
@@ -48,36 +48,35 @@ bits_front : (k n m : ℕ) → m < 2 ^ n → m % 2 ^ k ≡ 2 ^ k - 1 → T (fron
 unfolding pins front
 bits_front zero n m h e = tt
 bits_front (suc k) zero m h e =
-    let none : m / 2 % 2 ^ k ≡ 0 = grind (arith, zero-mod (2 ^ k)) in
-    absurd (omega (arith, low_bits m k, pow-suc 2 k, pow_pos k))
+    absurd (grind (arith, low_bits m k, pow-suc 2 k, pow_pos k, zero-mod (2 ^ k)))
 bits_front (suc k) (suc n) m h e =
     cons_front k m (pins n (m / 2)) (omega (arith, low_bits m k, pow-suc 2 k, pow_pos k)) (bits_front k n (m / 2) (omega (arith, pow-suc 2 n)) (omega (arith, low_bits m k, pow-suc 2 k, pow_pos k)))
 
 half_down : (m i : ℕ) → m / 2 ^ suc i ≡ m / 2 / 2 ^ i
-half_down m i = ap (λ n. m / 2 ^ n) (omega arith) ∙ sym (shr-shr m 1 i)
+half_down m i = grind (arith, shr-shr m 1 i)
 
 up_bits : (i k n m : ℕ) → m < 2 ^ n → T (up_after i k (pins n m)) → m / 2 ^ i % 2 ^ k ≡ 2 ^ k - 1
 unfolding pins up_after
-up_bits zero k n m h t = ap (λ x. x % 2 ^ k) (omega arith) ∙ front_bits k n m h t
+up_bits zero k n m h t = grind (arith, front_bits k n m h t)
 up_bits (suc i) k zero m h t = absurd t
-up_bits (suc i) k (suc n) m h t = ap (λ x. x % 2 ^ k) (half_down m i) ∙ up_bits i k n (m / 2) (omega (arith, pow-suc 2 n)) t
+up_bits (suc i) k (suc n) m h t = grind (arith, half_down m i, up_bits i k n (m / 2) (omega (arith, pow-suc 2 n)) t)
 
 bits_up : (i k n m : ℕ) → m < 2 ^ n → i < n → m / 2 ^ i % 2 ^ k ≡ 2 ^ k - 1 → T (up_after i k (pins n m))
 unfolding pins up_after
-bits_up zero k n m h l e = bits_front k n m h (ap (λ x. x % 2 ^ k) (omega arith) ∙ e)
+bits_up zero k n m h l e = bits_front k n m h (grind arith)
 bits_up (suc i) k zero m h l e = absurd (omega arith)
-bits_up (suc i) k (suc n) m h l e = bits_up i k n (m / 2) (omega (arith, pow-suc 2 n)) (omega arith) (ap (λ x. x % 2 ^ k) (sym (half_down m i)) ∙ e)
+bits_up (suc i) k (suc n) m h l e = bits_up i k n (m / 2) (omega (arith, pow-suc 2 n)) (omega arith) (grind (arith, half_down m i))
 
 -- the test that the code makes, both ways
 module _ (b : Board) (k : Knock) (w : ℕ) (low : 1 ≤ k.pin) (high : k.pin ≤ b.count) (some : 1 ≤ k.pins) (few : k.pins ≤ 2) (e : w ≡ 2 ^ k.pins - 1) where
   pub tested_knock : eqb (bit_and (b.standing / 2 ^ (k.pin - 1)) w) w ≡ true → IsKnock (row b) k
   tested_knock t =
-      let ones : b.standing / 2 ^ (k.pin - 1) % 2 ^ k.pins ≡ 2 ^ k.pins - 1 = sym (and_mask (b.standing / 2 ^ (k.pin - 1)) k.pins) ∙ ap (bit_and (b.standing / 2 ^ (k.pin - 1))) (sym e) ∙ eqb-true (bit_and (b.standing / 2 ^ (k.pin - 1)) w) w t ∙ e in
+      let ones : b.standing / 2 ^ (k.pin - 1) % 2 ^ k.pins ≡ 2 ^ k.pins - 1 = grind (arith, and_mask (b.standing / 2 ^ (k.pin - 1)) k.pins, eqb-true (bit_and (b.standing / 2 ^ (k.pin - 1)) w) w t) in
       subst (λ i. IsKnock (row b) (taking i k.pins)) (omega arith) (up_knock (row b) (k.pin - 1) k.pins some few (bits_up (k.pin - 1) k.pins b.count b.standing b.within (omega arith) ones))
 
   pub knock_tested : IsKnock (row b) k → eqb (bit_and (b.standing / 2 ^ (k.pin - 1)) w) w ≡ true
   knock_tested is =
-      eq-eqb (bit_and (b.standing / 2 ^ (k.pin - 1)) w) w (ap (bit_and (b.standing / 2 ^ (k.pin - 1))) e ∙ and_mask (b.standing / 2 ^ (k.pin - 1)) k.pins ∙ up_bits (k.pin - 1) k.pins b.count b.standing b.within (knock_up (row b) k is).1 ∙ sym e)
+      eq-eqb _ _ (grind (arith, and_mask (b.standing / 2 ^ (k.pin - 1)) k.pins, up_bits (k.pin - 1) k.pins b.count b.standing b.within (knock_up (row b) k is).1))
 
 -- ---- how many moves there are
 
@@ -92,8 +91,7 @@ length-offered i n ps ks = grind (arith, nat_tests)
 
 one_up : (p : Pin) (ps : List Pin) → cond (front 1 (p ∷ ps)) 1 0 + upright ps ≡ upright (p ∷ ps)
 unfolding front upright
-one_up Standing ps = refl
-one_up Down ps = omega arith
+one_up p ps = grind (arith, nat_tests)
 
 length_from : (i : ℕ) (ps : List Pin) → length (knocks_from i ps) ≡ upright ps + couples ps
 unfolding knocks_from couples upright
@@ -103,11 +101,10 @@ length_from i (p ∷ ps) =
 
 -- two pins that stand side by side are two bits that are 1
 pair_bit : (n m : ℕ) → m < 2 ^ n → cond (front 2 (pins n m)) 1 0 ≡ min (m % 2) (m / 2 % 2)
-pair_bit n m h = go (front 2 (pins n m)) refl
-  where
-    go : (c : Bool) → front 2 (pins n m) ≡ c → cond c 1 0 ≡ min (m % 2) (m / 2 % 2)
-    go true e = omega (arith, low_bits m 1, front_bits 2 n m h (subst T (sym e) tt))
-    go false e = let no_three : m % 2 ^ 2 ≡ 2 ^ 2 - 1 → ⊥ = λ f. subst T e (bits_front 2 n m h f) in omega (arith, low_bits m 1)
+pair_bit n m h =
+    cond_both (front 2 (pins n m)) 1 0 (λ v. v ≡ min (m % 2) (m / 2 % 2))
+    (λ e. omega (arith, low_bits m 1, front_bits 2 n m h (subst T (sym e) tt)))
+    (λ e. let no_three : m % 2 ^ 2 ≡ 2 ^ 2 - 1 → ⊥ = λ f. subst T e (bits_front 2 n m h f) in omega (arith, low_bits m 1))
 
 couples_pins : (n m : ℕ) → m < 2 ^ n → couples (pins n m) ≡ ones (bit_and m (m / 2))
 unfolding pins couples ones
@@ -129,7 +126,7 @@ bite i n = (2 ^ n - 1) * 2 ^ i
 
 bite_up : (i n : ℕ) → bite (suc i) n ≡ 2 * bite i n
 unfolding bite
-bite_up i n = ap (λ k. (2 ^ n - 1) * k) (pow-suc 2 i) ∙ sym (mul_assoc (2 ^ n - 1) (2 ^ i) 2) ∙ mul_comm ((2 ^ n - 1) * 2 ^ i) 2
+bite_up i n = rw (pow-suc 2 i) (grind arith)
 
 bite_more : (n : ℕ) → bite 0 (suc n) ≡ 2 * bite 0 n + 1
 unfolding bite
@@ -139,18 +136,13 @@ bite_none : bite 0 0 ≡ 0
 unfolding bite
 bite_none = refl
 
-even_down : (m : ℕ) → m % 2 ≡ 0 → pin_of (m % 2) ≡ Down
-even_down m e = ap pin_of e
-
 fallen_pins : (k n m : ℕ) → T (front k (pins n m)) → pins n (m - bite 0 k) ≡ fallen k (pins n m)
 unfolding pins fallen
 fallen_pins zero n m t = ap (pins n) (omega (arith, bite_none))
 fallen_pins (suc k) zero m t = refl
 fallen_pins (suc k) (suc n) m t =
     let f = front_cons k m (pins n (m / 2)) t in
-    let z : (m - bite 0 (suc k)) % 2 ≡ 0 = omega (arith, bite_more k, f.0) in
-    let h : (m - bite 0 (suc k)) / 2 ≡ m / 2 - bite 0 k = omega (arith, bite_more k, f.0) in
-    ap₂ ◌∷◌ (even_down (m - bite 0 (suc k)) z) (ap (pins n) h ∙ fallen_pins k n (m / 2) f.1)
+    grind (arith, nat_tests, bite_more k, f.0, fallen_pins k n (m / 2) f.1)
 
 front_le : (k n m : ℕ) → T (front k (pins n m)) → bite 0 k ≤ m
 unfolding pins front
@@ -171,9 +163,7 @@ unfolding pins up_after fallen_after
 left_pins zero k n m t = fallen_pins k n m t
 left_pins (suc i) k zero m t = refl
 left_pins (suc i) k (suc n) m t =
-    let z : (m - bite (suc i) k) % 2 ≡ m % 2 = omega (arith, bite_up i k, bite_le i k n (m / 2) t) in
-    let h : (m - bite (suc i) k) / 2 ≡ m / 2 - bite i k = omega (arith, bite_up i k) in
-    ap₂ ◌∷◌ (ap pin_of z) (ap (pins n) h ∙ left_pins i k n (m / 2) t)
+    grind (arith, bite_up i k, bite_le i k n (m / 2) t, left_pins i k n (m / 2) t)
 
 -- the pins that stand are on the board
 up_in : (i n : ℕ) (ps : List Pin) → 0 < n → T (up_after i n ps) → i < length ps
@@ -200,22 +190,13 @@ module _ (b : Board) (k : Knock) (is : IsKnock (row b) k) where
       let i = k.pin - 1 in
       let low = low_mask b in
       let most = bite_le i k.pins b.count b.standing u in
-      let whole : 2 ^ k.pins - 1 + 1 ≡ 2 ^ k.pins = omega (arith, pow_pos k.pins) in
-      let is_bite : 2 ^ (k.pins + i) - 2 ^ i ≡ bite i k.pins = omega (arith, pow-add 2 k.pins i, add-mul (2 ^ k.pins - 1) 1 (2 ^ i), ap (λ n. n * 2 ^ i) whole) in
-      omega (
-        arith,
-        and-not 32 (bite i k.pins) b.standing (omega arith) (omega arith),
-        and_comm b.standing (2 ^ 32 - 1 - bite i k.pins),
-        and_comm b.standing (bite i k.pins),
-        ap (bit_and b.standing) is_bite,
-        and_high b.standing k.pins i,
-        ap (λ x. x * 2 ^ i) (up_bits i k.pins b.count b.standing b.within u),
-      )
+      let is_bite : 2 ^ (k.pins + i) - 2 ^ i ≡ bite i k.pins = grind (arith, pow-add 2 k.pins i, pow_pos k.pins) in
+      grind (arith, is_bite, and-not 32 (bite i k.pins) b.standing, and_comm b.standing, and_high b.standing k.pins i, up_bits i k.pins b.count b.standing b.within u)
 
   pub row_left : (w : ℕ) → w ≡ 2 ^ k.pins - 1 → pins b.count (bit_and b.standing (4294967295 - (w * 2 ^ (k.pin - 1)) % 4294967296)) ≡ left_by k (row b)
   unfolding left_by bite
   row_left w e =
       let u = (knock_up (row b) k is).1 in
       let i = k.pin - 1 in
-      let whole : (w * 2 ^ i) % 4294967296 ≡ bite i k.pins = ap (λ v. (v * 2 ^ i) % 4294967296) e ∙ mod-eq_of_lt (omega (arith, bite_le i k.pins b.count b.standing u, low_mask b)) in
-      ap (λ v. pins b.count (bit_and b.standing (4294967295 - v))) whole ∙ ap (pins b.count) cleared ∙ left_pins i k.pins b.count b.standing u
+      let whole : (w * 2 ^ i) % 4294967296 ≡ bite i k.pins = rw e (mod-eq_of_lt (omega (arith, bite_le i k.pins b.count b.standing u, low_mask b))) in
+      rw (whole, cleared) (left_pins i k.pins b.count b.standing u)

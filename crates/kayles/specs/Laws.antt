@@ -78,7 +78,7 @@ bit_back false = refl
 pub words_back : (p : Position) → kayles_rules.position (kayles_rules.row p) ≡ p
 words_back p =
     let n : min p.board.count most_pins ≡ p.board.count = omega (arith, p.board.few) in
-    same_position _ p (same_board _ p.board n (ap (λ k. p.board.standing % 2 ^ k) n ∙ mod-eq_of_lt p.board.within)) (bit_back p.counting)
+    same_position _ p (same_board _ p.board n (rw n (mod-eq_of_lt p.board.within))) (bit_back p.counting)
 
 pub game_laws : GameLaws kayles_rules
 game_laws = record {

@@ -22,11 +22,11 @@ place_pos (suc n) = mul-pos (place_pos n) (omega arith)
 place_split : (j n : ℕ) → j ≤ n → (c : ℕ) × (place n ≡ place j * c)
 unfolding place
 place_split j zero h = (1, grind arith)
-place_split j (suc n) h = go (λ l. place_split j n l) (cases_lt j (suc n))
-  where
-    go : (j ≤ n → (c : ℕ) × (place n ≡ place j * c)) → (j < suc n) ⊎ (suc n ≤ j) → (c : ℕ) × (place (suc n) ≡ place j * c)
-    go ih (inl l) = let s = ih (omega arith) in (s.0 * radix (suc n), ap (λ k. k * radix (suc n)) s.1 ∙ mul_assoc (place j) s.0 (radix (suc n)))
-    go ih (inr l) = (1, ap place (let e : suc n ≡ j = omega arith in e) ∙ sym (mul-one (place j)))
+place_split j (suc n) h =
+    elim (cases_lt j (suc n)) [
+      | inl l ↦ let s = place_split j n (omega arith) in (s.0 * radix (suc n), rw s.1 (mul_assoc (place j) s.0 (radix (suc n))))
+      | inr l ↦ (1, ap place (let e : suc n ≡ j = omega arith in e) ∙ sym (mul-one (place j)))
+    ]
 
 -- each of them is a digit
 abbrev pub Small : (ℕ → ℕ) → Type 0
@@ -40,7 +40,7 @@ digits_lt f (suc n) s =
     omega (arith, digits_lt f n s, add-mul (f (suc n)) 1 (place n), room, mul_comm (place n) (radix (suc n)))
 
 regroup : (f n a r c : ℕ) → n ≡ a * r * c → f * n ≡ a * (r * (c * f))
-regroup f n a r c e = mul_comm f n ∙ ap (λ k. k * f) e ∙ mul_assoc (a * r) c f ∙ mul_assoc a r (c * f)
+regroup f n a r c e = rw e (grind arith)
 
 -- the digit at each place
 pub digit_at : (f : ℕ → ℕ) (j n : ℕ) → Small f → j < n → digits f n / place j % radix (suc j) ≡ f (suc j)

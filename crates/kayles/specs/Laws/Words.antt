@@ -1,5 +1,5 @@
 -- The word of a row's runs, and what can be read off it.
-use Rattle.std.specs.Prelude.{◌≡◌, ℕ, zero, suc, ◌+◌, ◌-◌, ◌*◌, ◌/◌, ◌%◌, ◌<◌, ◌≤◌, ◌⊎◌, List, [], ◌∷◌, length, refl}
+use Rattle.std.specs.Prelude.{◌≡◌, ℕ, zero, suc, ◌+◌, ◌-◌, ◌*◌, ◌/◌, ◌%◌, ◌<◌, ◌≤◌, List, [], ◌∷◌, length, refl}
 use Rattle.std.proofs.Common.{sym, ap, ◌∙◌, inl, inr, le-div_iff_mul-le, arith}
 use Rattle.std.proofs.Math.Nat.{div-div-eq-div-mul}
 use Rattle.std.proofs.lemmas.Bool.{cases_lt}
@@ -103,11 +103,11 @@ word_low ps h = omega (arith, word_is ps h, pins_few ps h, digits_lt (λ x. coun
 -- rows with one word have as many runs of each length, and the other way round
 pub same_word : (ps qs : List Pin) → length ps ≤ most_pins → length qs ≤ most_pins → word ps ≡ word qs → Same ps qs
 same_word ps qs a b e zero h = absurd (omega arith)
-same_word ps qs a b e (suc j) h = go (cases_lt j most_pins)
-  where
-    go : (j < most_pins) ⊎ (most_pins ≤ j) → counted (suc j) 0 ps ≡ counted (suc j) 0 qs
-    go (inl l) = sym (word_runs ps a j l) ∙ ap (λ w. w / (room * place j) % radix (suc j)) e ∙ word_runs qs b j l
-    go (inr l) = counted_long (suc j) 0 ps (omega arith) ∙ sym (counted_long (suc j) 0 qs (omega arith))
+same_word ps qs a b e (suc j) h =
+    elim (cases_lt j most_pins) [
+      | inl l ↦ sym (word_runs ps a j l) ∙ ap (λ w. w / (room * place j) % radix (suc j)) e ∙ word_runs qs b j l
+      | inr l ↦ counted_long (suc j) 0 ps (omega arith) ∙ sym (counted_long (suc j) 0 qs (omega arith))
+    ]
 
 pub word_same : (ps qs : List Pin) → length ps ≤ most_pins → length qs ≤ most_pins → Same ps qs → word ps ≡ word qs
 word_same ps qs a b s =
