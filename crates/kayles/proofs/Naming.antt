@@ -1,5 +1,5 @@
 -- What the set of a position names, and who belongs to it.
-use Rattle.std.proofs.Common.{◌≡◌, ℕ, zero, suc, ◌-◌, ◌*◌, ◌/◌, ◌%◌, ◌<◌, ◌≤◌, ◌⊎◌, List, [], ◌∷◌, sym, refl, ap, ◌∙◌, subst, inl, inr, arith}
+use Rattle.std.proofs.Common.{◌≡◌, ℕ, zero, suc, ◌-◌, ◌/◌, ◌%◌, ◌<◌, ◌≤◌, ◌⊎◌, List, [], ◌∷◌, sym, refl, ap, ◌∙◌, subst, inl, inr, arith}
 use Rattle.std.proofs.lemmas.Bool.Decides.{nat_tests}
 use Rattle.std.proofs.lemmas.Bool.{cases_lt}
 use Rattle.kayles.specs.declared.board.Pin.{Pin}
@@ -10,14 +10,14 @@ use Rattle.kayles.specs.declared.tally.RunSet.{RunSet}
 use Rattle.kayles.specs.Boards.{row_few}
 use Rattle.kayles.specs.Kayles.{AsManyRuns, Describes, kayles_sets, pins_of, set_of}
 use Rattle.kayles.specs.Limits.{most_pins}
-use Rattle.kayles.specs.Tallies.{HasRuns, all_runs, closed, how_many, named, place, radix, room, runs_from, unit}
+use Rattle.kayles.specs.Tallies.{HasRuns, all_runs, closed, how_many, named, radix, runs_from, unit}
 use Rattle.kayles.specs.Laws.Digits.{place_pos, sum_ext}
 use Rattle.kayles.specs.Laws.{has_key, own, runs_set, set_runs}
 use Rattle.kayles.proofs.Sorting.{same_runs}
 use Rattle.kayles.specs.Laws.Splitting.{Same, counted, counted_long}
 use Rattle.kayles.specs.Laws.Counting.{many_runs}
 use Rattle.kayles.proofs.Tallying.{runs_listed}
-use Rattle.kayles.specs.Laws.Words.{pins_are, word_pins, word_runs}
+use Rattle.kayles.specs.Laws.Words.{pins_are, unit_is, word_pins, word_runs}
 use Rattle.search.specs.Sets.{In}
 
 -- no run has no pins
@@ -73,13 +73,8 @@ described p = record {
 
 -- ---- reading a digit
 
--- what is left of a run's unit without its pins
-unit_place : (n : ℕ) → 0 < n → unit n - n ≡ room * place (n - 1)
-unit_place zero h = absurd (omega arith)
-unit_place (suc n) h = grind arith
-
 pub unit_above : (n : ℕ) → 0 < n → 0 < unit n - n
-unit_above n h = omega (arith, unit_place n h, place_pos (n - 1))
+unit_above n h = omega (arith, unit_is n h, place_pos (n - 1))
 
 pub read_digit : (s : RunSet) (n u : ℕ) → 0 < n → n ≤ most_pins → u ≡ unit n → s.word / (u - n) % radix n ≡ named s n
 read_digit s zero u a b e = absurd (omega arith)

@@ -1,6 +1,6 @@
 -- The list of the moves on a row: only moves, in order, and all of them; and the row that a move leaves.
 use Rattle.std.specs.Prelude.{◌≡◌, ℕ, zero, suc, ◌+◌, ◌-◌, ◌<◌, ◌≤◌, Bool, true, false, cond, T, List, [], ◌∷◌, length, slice_index_or, refl}
-use Rattle.std.proofs.Common.{sym, ap, ap₂, ◌∙◌, subst, inl, inr, arith}
+use Rattle.std.proofs.Common.{sym, ap, ◌∙◌, subst, inl, inr, arith}
 use Rattle.std.proofs.lemmas.Bool.{cases_lt}
 use Rattle.kayles.specs.declared.board.Pin.{Pin}
 use Rattle.kayles.specs.declared.board.Pin.TheVariants.{Standing, Down}
@@ -83,9 +83,9 @@ sorted : (i : ℕ) (ps : List Pin) → Sorted (knocks_from i ps)
 unfolding knocks_from
 sorted i [] = λ j m a b. absurd (omega arith)
 sorted i (p ∷ ps) =
-    offered_sorted i 1 (p ∷ ps) (offered i 2 (p ∷ ps) (knocks_from (suc i) ps))
-    (offered_each (Earlier (taking i 1)) i 2 (p ∷ ps) (knocks_from (suc i) ps) (λ t. inr (refl, omega arith)) (later i 1 ps))
-    (offered_sorted i 2 (p ∷ ps) (knocks_from (suc i) ps) (later i 2 ps) (sorted (suc i) ps))
+    offered_sorted i 1 (p ∷ ps) _
+    (offered_each (Earlier (taking i 1)) i 2 (p ∷ ps) _ (λ t. inr (refl, omega arith)) (later i 1 ps))
+    (offered_sorted i 2 (p ∷ ps) _ (later i 2 ps) (sorted (suc i) ps))
 
 pub listed : (ps : List Pin) → KnocksOf ps (knocks ps)
 unfolding knocks
@@ -96,9 +96,9 @@ listed ps = record {
   order = sorted 1 ps;
   all = λ k i.
       let u = knock_up ps k i in
-      let same : taking (1 + (k.pin - 1)) (suc (k.pins - 1)) ≡ k = ap₂ taking (omega (arith, u.0)) (omega (arith, i.some)) in
-      let up : T (up_after (k.pin - 1) (suc (k.pins - 1)) ps) = subst (λ c. T (up_after (k.pin - 1) c ps)) (omega (arith, i.some)) u.1 in
-      subst (Has (knocks_from 1 ps)) same (taken 1 (k.pin - 1) (k.pins - 1) ps (omega (arith, i.few)) up);
+      let n : suc (k.pins - 1) ≡ k.pins = omega (arith, i.some) in
+      let up = subst (λ c. T (up_after (k.pin - 1) c ps)) (sym n) u.1 in
+      subst (λ n. Has (knocks_from 1 ps) (taking k.pin n)) n (taken 1 (k.pin - 1) (k.pins - 1) k.pin ps (omega (arith, i.few)) (omega (arith, u.0)) up);
 }
 
 -- ---- the row that a move leaves

@@ -85,19 +85,11 @@ unfoldable couples : List Pin → ℕ
 couples [] = 0
 couples (p ∷ ps) = cond (front 2 (p ∷ ps)) 1 0 + couples ps
 
-length-offered : (i n : ℕ) (ps : List Pin) (ks : List Knock) → length (offered i n ps ks) ≡ cond (front n ps) 1 0 + length ks
-unfolding offered
-length-offered i n ps ks = grind (arith, nat_tests)
-
-one_up : (p : Pin) (ps : List Pin) → cond (front 1 (p ∷ ps)) 1 0 + upright ps ≡ upright (p ∷ ps)
-unfolding front upright
-one_up p ps = grind (arith, nat_tests)
-
 length_from : (i : ℕ) (ps : List Pin) → length (knocks_from i ps) ≡ upright ps + couples ps
-unfolding knocks_from couples upright
+unfolding knocks_from couples upright offered front
 length_from i [] = refl
-length_from i (p ∷ ps) =
-    omega (arith, length_from (suc i) ps, length-offered i 1 (p ∷ ps) (offered i 2 (p ∷ ps) (knocks_from (suc i) ps)), length-offered i 2 (p ∷ ps) (knocks_from (suc i) ps), one_up p ps)
+length_from i (Standing ∷ ps) = grind (arith, nat_tests, length_from (suc i) ps)
+length_from i (Down ∷ ps) = grind (arith, nat_tests, length_from (suc i) ps)
 
 -- two pins that stand side by side are two bits that are 1
 pair_bit : (n m : ℕ) → m < 2 ^ n → cond (front 2 (pins n m)) 1 0 ≡ min (m % 2) (m / 2 % 2)

@@ -30,15 +30,11 @@ use Rattle.search.proofs.SetsByKey.{ByKey, laws_by_key}
 
 -- ---- the moves of a position
 
-offered_few : (i n : ℕ) (ps : List Pin) (ks : List Knock) → length (offered i n ps ks) ≤ suc (length ks)
-unfolding offered
-offered_few i n ps ks = grind (arith, nat_tests)
-
 -- no pin begins more than two moves
 few_from : (i : ℕ) (ps : List Pin) → length (knocks_from i ps) ≤ 2 * length ps
-unfolding knocks_from
+unfolding knocks_from offered
 few_from i [] = omega arith
-few_from i (p ∷ ps) = omega (arith, few_from (suc i) ps, offered_few i 2 (p ∷ ps) (knocks_from (suc i) ps), offered_few i 1 (p ∷ ps) (offered i 2 (p ∷ ps) (knocks_from (suc i) ps)))
+few_from i (p ∷ ps) = grind (arith, nat_tests, few_from (suc i) ps)
 
 pub few_knocks : (p : Position) → length (knocks_of p) ≤ 64
 unfolding knocks
@@ -63,7 +59,7 @@ row_after p m h =
 row_move : (q : Position) (j c : ℕ) → c < 2 → T (up_after j (suc c) (pins_of q)) → (n : ℕ) × (n < length (knocks_of q)) × (pins_of (after q n) ≡ fallen_after j (suc c) (pins_of q))
 unfolding knocks
 row_move q j c h t =
-    let a = taken 1 j c (pins_of q) h t in
+    let a = taken 1 j c (1 + j) (pins_of q) h refl t in
     (a.0, a.1, ap (λ k. pins_of (played q k)) a.2 ∙ row_left q j (suc c))
 
 -- ---- the game

@@ -32,16 +32,13 @@ lens_from n i k (Down ∷ ps) h = lens_closed n i k (runs_from (suc i) 0 ps) (om
 -- a run more counts once more for its length
 single : (w : ℕ → ℕ) (n : ℕ) (r : Run) (rs : List Run) → 0 < r.len → r.len ≤ n → sum_to w (λ x. how_many x (r ∷ rs)) n ≡ w (r.len - 1) + sum_to w (λ x. how_many x rs) n
 unfolding how_many one
-single w n r rs a b =
-    sum_add w (λ x. one x r.len) (λ x. how_many x rs) n
-    ∙ ap (λ k. k + sum_to w (λ x. how_many x rs) n)
-    (ap (λ l. sum_to w (λ x. one x l) n) (omega arith) ∙ sum_one w (r.len - 1) n (omega arith))
+single w n r rs a b = sum_add w (λ x. one x r.len) (λ x. how_many x rs) n ∙ ap (λ k. k + sum_to w (λ x. how_many x rs) n) (sum_one w r.len n a b)
 
 no_runs : (w : ℕ → ℕ) (n : ℕ) → sum_to w (λ x. how_many x []) n ≡ 0
 unfolding how_many
 no_runs w n = sum_zero w n
 
-unit_is : (x : ℕ) → 0 < x → unit x ≡ x + room * place (x - 1)
+pub unit_is : (x : ℕ) → 0 < x → unit x ≡ x + room * place (x - 1)
 unit_is zero h = absurd (omega arith)
 unit_is (suc n) h = grind arith
 
