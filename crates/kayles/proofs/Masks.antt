@@ -1,5 +1,5 @@
 -- What a mask says of its pins.
-use Rattle.std.specs.Prelude.{◌≡◌, ℕ, zero, suc, ◌+◌, ◌*◌, ◌/◌, ◌%◌, ◌^◌, ◌<◌, Bool, true, false, cond, List, [], ◌∷◌, ◌++◌, slice_index_or, refl}
+use Rattle.std.specs.Prelude.{◌≡◌, ℕ, zero, suc, ◌+◌, ◌*◌, ◌/◌, ◌%◌, ◌^◌, ◌<◌, Bool, true, false, cond, [], ◌∷◌, ◌++◌, slice_index_or, refl}
 use Rattle.std.proofs.Common.{ap, ap₂, ◌∙◌, add-one, arith, mul-le-mul_right, pow-suc, shl_exact, shr-shr}
 use Rattle.std.proofs.lemmas.Bool.Decides.{nat_tests}
 use Rattle.std.specs.Int.Bits.{bit_or, or_shifted_r}
@@ -30,24 +30,18 @@ module _ (b : Board) (v : ℕ) (room : b.count < most_pins) (bit_v : v < 2) wher
   pub row_more : (p : Pin) → v ≡ bit p → pins (b.count + 1) (bit_or b.standing ((v * 2 ^ b.count) % 4294967296)) ≡ row b ++ p ∷ []
   row_more p e = ap₂ pins (add-one b.count) (more ∙ ap (λ v. b.standing + v * 2 ^ b.count) e) ∙ pins_more b.count b.standing p b.within
 
-bit_upright : (m : ℕ) (ps : List Pin) → upright (pin_of (m % 2) ∷ ps) ≡ m % 2 + upright ps
-unfolding upright
-bit_upright m ps = grind (arith, nat_tests)
-
 -- the pins that stand are the ones of the mask
 pub upright_pins : (n m : ℕ) → m < 2 ^ n → upright (pins n m) ≡ ones m
 unfolding pins upright ones
 upright_pins zero m h = grind arith
-upright_pins (suc n) m h =
-    bit_upright m (pins n (m / 2)) ∙ omega (arith, ones_step m, upright_pins n (m / 2) (omega (arith, pow-suc 2 n)))
+upright_pins (suc n) m h = grind (arith, nat_tests, ones_step m, upright_pins n (m / 2), pow-suc 2 n)
 
 -- pin i + 1 is that of bit i
 pub pin_at : (n m i : ℕ) → i < n → slice_index_or (pins n m) i Down ≡ pin_of (m / 2 ^ i % 2)
 unfolding pins
 pin_at zero m i h = absurd (omega arith)
-pin_at (suc n) m zero h = ap (λ k. pin_of (k % 2)) (omega arith)
-pin_at (suc n) m (suc i) h =
-    pin_at n (m / 2) i (omega arith) ∙ ap (λ k. pin_of (k % 2)) (shr-shr m 1 i ∙ ap (λ k. m / 2 ^ k) (omega arith))
+pin_at (suc n) m zero h = grind arith
+pin_at (suc n) m (suc i) h = grind (arith, pin_at n (m / 2) i, shr-shr m 1 i)
 
 pub down_up : Down ≡ Standing → ⊥
 down_up e = cc

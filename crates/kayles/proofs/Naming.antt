@@ -54,10 +54,10 @@ many_has ps x n e = (all_runs ps, runs_listed ps, e)
 
 same_as_many : (ps qs : List Pin) → Same ps qs → AsManyRuns ps qs
 same_as_many ps qs s zero n h = many_has qs 0 n (none qs ∙ sym (none ps) ∙ has_many ps 0 n h)
-same_as_many ps qs s (suc x) n h = many_has qs (suc x) n (many_runs (suc x) qs (omega arith) ∙ sym (s (suc x) (omega arith)) ∙ sym (many_runs (suc x) ps (omega arith)) ∙ has_many ps (suc x) n h)
+same_as_many ps qs s (suc x) n h = many_has qs (suc x) n (grind (arith, many_runs (suc x) qs, many_runs (suc x) ps, s (suc x), has_many ps (suc x) n h))
 
 as_many_same : (ps qs : List Pin) → AsManyRuns ps qs → Same ps qs
-as_many_same ps qs a x h = sym (many_runs x ps h) ∙ sym (has_many qs x (how_many x (all_runs ps)) (a x (how_many x (all_runs ps)) (many_has ps x (how_many x (all_runs ps)) refl))) ∙ many_runs x qs h
+as_many_same ps qs a x h = sym (many_runs x ps h) ∙ sym (has_many qs x _ (a x _ (many_has ps x _ refl))) ∙ many_runs x qs h
 
 pub described : (p : Position) → Describes p (set_of p)
 described p = record {

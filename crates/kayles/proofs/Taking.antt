@@ -1,9 +1,10 @@
 -- Moves on the mask: which can be made, how many there are, and what they leave.
-use Rattle.std.proofs.Common.{◌≡◌, ℕ, zero, suc, ◌+◌, ◌-◌, ◌*◌, ◌/◌, ◌%◌, ◌^◌, ◌<◌, ◌≤◌, min, true, cond, T, eqb, List, [], ◌∷◌, length, sym, refl, ap, ◌∙◌, subst, mod-eq_of_lt, pow-suc, arith, pow_pos, pow_mono, shr-shr}
+use Rattle.std.proofs.Common.{◌≡◌, ℕ, zero, suc, ◌+◌, ◌-◌, ◌*◌, ◌/◌, ◌%◌, ◌^◌, ◌<◌, ◌≤◌, min, cond, T, eqb, List, [], ◌∷◌, length, sym, refl, ap, ◌∙◌, subst, mod-eq_of_lt, pow-suc, arith, pow_pos, pow_mono, shr-shr}
 use native.Mathlib.Nat.{mod-one, zero-mod}
 use lib.Bits.{and_mask, and_step, bit_and}
 use lib.Count.{ones, ones_step}
 use lib.Pow.{mod-pow-add}
+use Rattle.std.specs.Bool.{Decides}
 use Rattle.std.proofs.lemmas.Bool.{cond_both, eq-eqb, eqb-false, eqb-true}
 use Rattle.std.proofs.lemmas.Bool.Decides.{nat_tests}
 use Rattle.std.proofs.lemmas.Nat.{and-not, and_comm, and_shr, pow-add}
@@ -67,16 +68,16 @@ bits_up zero k n m h l e = bits_front k n m h (grind arith)
 bits_up (suc i) k zero m h l e = absurd (omega arith)
 bits_up (suc i) k (suc n) m h l e = bits_up i k n (m / 2) (omega (arith, pow-suc 2 n)) (omega arith) (grind (arith, half_down m i))
 
--- the test that the code makes, both ways
-module _ (b : Board) (k : Knock) (w : ℕ) (low : 1 ≤ k.pin) (high : k.pin ≤ b.count) (some : 1 ≤ k.pins) (few : k.pins ≤ 2) (e : w ≡ 2 ^ k.pins - 1) where
-  pub tested_knock : eqb (bit_and (b.standing / 2 ^ (k.pin - 1)) w) w ≡ true → IsKnock (row b) k
-  tested_knock t =
-      let ones : b.standing / 2 ^ (k.pin - 1) % 2 ^ k.pins ≡ 2 ^ k.pins - 1 = grind (arith, and_mask (b.standing / 2 ^ (k.pin - 1)) k.pins, eqb-true (bit_and (b.standing / 2 ^ (k.pin - 1)) w) w t) in
-      subst (λ i. IsKnock (row b) (taking i k.pins)) (omega arith) (up_knock (row b) (k.pin - 1) k.pins some few (bits_up (k.pin - 1) k.pins b.count b.standing b.within (omega arith) ones))
-
-  pub knock_tested : IsKnock (row b) k → eqb (bit_and (b.standing / 2 ^ (k.pin - 1)) w) w ≡ true
-  knock_tested is =
-      eq-eqb _ _ (grind (arith, and_mask (b.standing / 2 ^ (k.pin - 1)) k.pins, up_bits (k.pin - 1) k.pins b.count b.standing b.within (knock_up (row b) k is).1))
+-- the test that the code makes
+pub decides_knock : (b : Board) (k : Knock) (w : ℕ) → 1 ≤ k.pin → k.pin ≤ b.count → 1 ≤ k.pins → k.pins ≤ 2 → w ≡ 2 ^ k.pins - 1 → Decides (eqb (bit_and (b.standing / 2 ^ (k.pin - 1)) w) w) (IsKnock (row b) k)
+decides_knock b k w low high some few e =
+    let i = k.pin - 1 in
+    let m = b.standing / 2 ^ i in (
+      λ t.
+          let ones : m % 2 ^ k.pins ≡ 2 ^ k.pins - 1 = grind (arith, and_mask m k.pins, eqb-true (bit_and m w) w t) in
+          subst (λ i. IsKnock (row b) (taking i k.pins)) (omega arith) (up_knock (row b) i k.pins some few (bits_up i k.pins b.count b.standing b.within (omega arith) ones)),
+      λ is. eq-eqb _ _ (grind (arith, and_mask m k.pins, up_bits i k.pins b.count b.standing b.within (knock_up (row b) k is).1)),
+    )
 
 -- ---- how many moves there are
 

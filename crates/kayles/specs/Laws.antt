@@ -5,20 +5,19 @@ pub mod Moves
 pub mod Rebuilding
 pub mod Splitting
 pub mod Words
-use Rattle.std.specs.Prelude.{◌≡◌, ℕ, zero, suc, ◌+◌, ◌-◌, ◌*◌, ◌%◌, ◌^◌, ◌<◌, ◌≤◌, min, Bool, true, false, cond, not, ◌&&◌, T, List, [], ◌∷◌, length, ◌==◌, slice_index_or, refl}
-use Rattle.std.proofs.Common.{sym, ap, ap₂, ◌∙◌, subst, subst₂, mod-eq_of_lt, arith}
+use Rattle.std.specs.Prelude.{◌≡◌, ℕ, suc, ◌+◌, ◌*◌, ◌<◌, ◌≤◌, min, Bool, true, false, cond, not, ◌&&◌, T, List, [], ◌∷◌, length, ◌==◌, slice_index_or, refl}
+use Rattle.std.proofs.Common.{sym, ap, ap₂, ◌∙◌, mod-eq_of_lt, arith}
 use Rattle.std.specs.Bool.{beq}
 use Rattle.std.specs.Cmp.{booleans_Decides}
 use Rattle.std.proofs.lemmas.Bool.Decides.{nat_tests}
-use Rattle.std.proofs.lemmas.Bool.{and_from, and_left, and_parts, cond-false, eq-eqb, eqb-true, ne_eqb}
+use Rattle.std.proofs.lemmas.Bool.{and_from, and_parts, eq-eqb, eqb-true}
 use Rattle.kayles.specs.declared.board.Pin.{Pin}
-use Rattle.kayles.specs.declared.position.Knock.{Knock}
 use Rattle.kayles.specs.declared.position.Position.{Position}
 use Rattle.kayles.specs.declared.tally.RunSet.{RunSet}
 use Rattle.kayles.specs.Boards.{row_few}
 use Rattle.kayles.specs.Kayles.{kayles_rules, kayles_sets, knocks_of, pins_of, played, set_of}
 use Rattle.kayles.specs.Limits.{most_pins}
-use Rattle.kayles.specs.Play.{fallen_after, front, knocks, knocks_from, left_by, no_knock, offered, taking}
+use Rattle.kayles.specs.Play.{fallen_after, knocks, knocks_from, left_by, no_knock, offered, taking}
 use Rattle.kayles.specs.Rows.{upright}
 use Rattle.kayles.specs.Laws.Moves.{takes, taken}
 use Rattle.kayles.specs.Laws.Rebuilding.{pins_mask, same_board, same_position}

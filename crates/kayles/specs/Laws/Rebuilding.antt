@@ -1,5 +1,5 @@
 -- Boards and their rows: each gives the other again.
-use Rattle.std.specs.Prelude.{◌≡◌, ℕ, zero, suc, ◌/◌, ◌%◌, ◌^◌, ◌<◌, ◌≤◌, List, [], ◌∷◌, length, refl}
+use Rattle.std.specs.Prelude.{◌≡◌, ℕ, zero, suc, ◌/◌, ◌^◌, ◌<◌, ◌≤◌, List, [], ◌∷◌, length, refl}
 use Rattle.std.proofs.Common.{sym, ap, ◌∙◌, pow-suc, arith}
 use Rattle.std.proofs.lemmas.Bool.Decides.{nat_tests}
 use mathlib.Core.HLevel.{is_prop→PathP}
@@ -10,7 +10,7 @@ use Rattle.kayles.specs.declared.board.Pin.TheVariants.{Standing, Down}
 use Rattle.kayles.specs.declared.position.Position.{Position}
 use Rattle.kayles.specs.Boards.{board_of, length-pins, mask}
 use Rattle.kayles.specs.Limits.{most_pins}
-use Rattle.kayles.specs.Rows.{bit, pin_of, pins, row}
+use Rattle.kayles.specs.Rows.{pins, row}
 
 -- boards are the same where their two words are
 pub same_board : (a b : Board) → a.count ≡ b.count → a.standing ≡ b.standing → a ≡ b
@@ -26,13 +26,10 @@ pins_mask [] = refl
 pins_mask (Standing ∷ ps) = grind (arith, nat_tests, pins_mask ps)
 pins_mask (Down ∷ ps) = grind (arith, nat_tests, pins_mask ps)
 
-bit_back : (b : ℕ) → b < 2 → bit (pin_of b) ≡ b
-bit_back b h = grind (arith, nat_tests)
-
 pub mask_pins : (n m : ℕ) → m < 2 ^ n → mask (pins n m) ≡ m
 unfolding pins mask
 mask_pins zero m h = omega arith
-mask_pins (suc n) m h = omega (arith, bit_back (m % 2) (omega arith), mask_pins n (m / 2) (omega (arith, pow-suc 2 n)))
+mask_pins (suc n) m h = grind (arith, nat_tests, mask_pins n (m / 2), pow-suc 2 n)
 
 -- a board whose row is ps is the board of ps
 pub board_is : (b : Board) (ps : List Pin) (h : length ps ≤ most_pins) → row b ≡ ps → b ≡ board_of ps h

@@ -84,10 +84,7 @@ word_pins ps h = omega (arith, word_is ps h, pins_few ps h)
 
 -- and the number of runs of each length
 pub word_runs : (ps : List Pin) → length ps ≤ most_pins → (j : ℕ) → j < most_pins → word ps / (room * place j) % radix (suc j) ≡ counted (suc j) 0 ps
-word_runs ps h j l =
-    ap (λ k. k % radix (suc j)) (sym (div-div-eq-div-mul (word ps) room (place j)))
-    ∙ ap (λ k. k / place j % radix (suc j)) (omega (arith, word_is ps h, pins_few ps h))
-    ∙ digit_at (λ x. counted x 0 ps) j most_pins (small ps h) l
+word_runs ps h j l = grind (arith, div-div-eq-div-mul (word ps) room (place j), word_is ps h, pins_few ps h, digit_at (λ x. counted x 0 ps) j most_pins (small ps h) l)
 
 place_top : place most_pins ≡ 3929688716083200
 unfolding place
