@@ -1,5 +1,5 @@
 // The moves on a board.
-ghost use Rattle.std.specs.Prelude.{◌≡◌, ◌-◌, ◌^◌, ◌≤◌, length, Decides, MatchOption};
+ghost use Rattle.std.specs.Prelude.{◌≡◌, ◌-◌, ◌^◌, ◌≤◌, ◌↔◌, length, IsTrue, MatchOption};
 ghost use Rattle.std.specs.List.{slice_get};
 ghost use Rattle.kayles.specs.Play.{IsKnock, Numbered, Unnumbered, knocks, left_by};
 ghost use Rattle.kayles.specs.Rows.{row};
@@ -22,7 +22,7 @@ impl Board {
         requires on_board { k.pin ≤ self.count }
         requires some { 1 ≤ k.pins }
         requires few { k.pins ≤ 2 }
-        ensures { Decides result (IsKnock (row self) k) }
+        ensures { IsTrue result ↔ IsKnock (row self) k }
     {
         let wanted = mask_of(k.pins);
         (self.standing >> (k.pin - 1)) & wanted == wanted
