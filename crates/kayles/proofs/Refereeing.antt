@@ -1,5 +1,6 @@
 -- The rules are those of the game.
-use Rattle.std.proofs.Common.{◌≡◌, ℕ, Bool, true, false, cond, not, ◌&&◌, eqb, List, length, sym, refl, ◌∙◌, subst, ap₂, arith, inl, inr}
+use Rattle.std.proofs.Common.{ℕ, List, length, sym, refl, ◌∙◌, subst, arith, inl, inr}
+use Rattle.std.proofs.lemmas.Bool.Decides.{nat_tests}
 use Rattle.std.proofs.lemmas.Bool.{cases_eq}
 use Rattle.kayles.specs.declared.board.Pin.{Pin}
 use Rattle.kayles.specs.declared.position.Knock.{Knock}
@@ -35,9 +36,6 @@ no_move p none = elim (cases_eq (length (knocks_of p)) 0) [
   | inr n ↦ let k = (listed (pins_of p)).each 0 (omega arith) in absurd (none (knock_of p 0).pin (k.stand (knock_of p 0).pin (omega arith, omega (arith, k.some))))
 ]
 
-end_score : (p : Position) (c : Bool) → Ended kayles_rules p → p.counting ≡ c → kayles_rules.score p ≡ cond (not c) 1 0
-end_score p c e f = ap₂ (λ n c. cond (eqb n 0 && not c) 1 0) e f
-
 pub rules_right : RulesRight
 rules_right = record {
   one_list = same_knocks;
@@ -47,8 +45,8 @@ rules_right = record {
   no_more = λ p. (knocks_of p, listed (pins_of p), omega arith);
   leads = λ p m h. leads p (knock_of p m) ((listed (pins_of p)).each m h);
   ended = λ p. (none_stands p, no_move p);
-  won = λ p e c. end_score p false e c;
-  lost = λ p e c. end_score p true e c;
+  won = λ p e c. grind (arith, nat_tests);
+  lost = λ p e c. grind (arith, nat_tests);
   not_yet = game_laws.no_score;
   gain = λ p m. refl;
   top = λ p. refl;

@@ -5,7 +5,7 @@ pub mod Moves
 pub mod Rebuilding
 pub mod Splitting
 pub mod Words
-use Rattle.std.specs.Prelude.{◌≡◌, ℕ, suc, ◌+◌, ◌*◌, ◌<◌, ◌≤◌, min, Bool, true, false, cond, not, ◌&&◌, T, List, [], ◌∷◌, length, ◌==◌, slice_index_or, refl}
+use Rattle.std.specs.Prelude.{◌≡◌, ℕ, suc, ◌+◌, ◌*◌, ◌<◌, ◌≤◌, min, cond, not, ◌&&◌, T, List, [], ◌∷◌, length, ◌==◌, slice_index_or, refl}
 use Rattle.std.proofs.Common.{sym, ap, ap₂, ◌∙◌, mod-eq_of_lt, arith}
 use Rattle.std.specs.Bool.{beq}
 use Rattle.std.specs.Cmp.{booleans_Decides}
@@ -66,14 +66,10 @@ row_move q j c h t =
 falls : (p : Position) (m : ℕ) → m < length (knocks_of p) → upright (pins_of (after p m)) < upright (pins_of p)
 falls p m h = let r = row_after p m h in omega (arith, ap upright r.4, lower r.0 (suc r.1) (pins_of p) r.3)
 
-bit_back : (c : Bool) → (cond c 1 0 == 1) ≡ c
-bit_back true = refl
-bit_back false = refl
-
 pub words_back : (p : Position) → kayles_rules.position (kayles_rules.row p) ≡ p
 words_back p =
     let n : min p.board.count most_pins ≡ p.board.count = omega (arith, p.board.few) in
-    same_position _ p (same_board _ p.board n (rw n (mod-eq_of_lt p.board.within))) (bit_back p.counting)
+    same_position _ p (same_board _ p.board n (rw n (mod-eq_of_lt p.board.within))) (grind (arith, nat_tests))
 
 pub game_laws : GameLaws kayles_rules
 game_laws = record {
