@@ -5,19 +5,19 @@ pub mod Moves
 pub mod Rebuilding
 pub mod Splitting
 pub mod Words
-use Rattle.std.specs.Prelude.{◌≡◌, ℕ, suc, ◌+◌, ◌*◌, ◌<◌, ◌≤◌, min, cond, not, ◌&&◌, T, List, [], ◌∷◌, length, ◌==◌, slice_index_or, refl}
+use Rattle.std.specs.Prelude.{◌≡◌, ℕ, suc, ◌+◌, ◌*◌, ◌<◌, ◌≤◌, min, not, T, List, [], ◌∷◌, length, ◌==◌, refl}
 use Rattle.std.proofs.Common.{sym, ap, ap₂, ◌∙◌, mod-eq_of_lt, arith}
 use Rattle.std.specs.Bool.{beq}
 use Rattle.std.specs.Cmp.{booleans_Decides}
 use Rattle.std.proofs.lemmas.Bool.Decides.{nat_tests}
-use Rattle.std.proofs.lemmas.Bool.{and_from, and_parts, eq-eqb, eqb-true}
+use Rattle.std.proofs.lemmas.Bool.{and_parts, eqb-true}
 use Rattle.kayles.specs.declared.board.Pin.{Pin}
 use Rattle.kayles.specs.declared.position.Position.{Position}
 use Rattle.kayles.specs.declared.tally.RunSet.{RunSet}
 use Rattle.kayles.specs.Boards.{row_few}
-use Rattle.kayles.specs.Kayles.{kayles_rules, kayles_sets, knocks_of, pins_of, played, set_of}
+use Rattle.kayles.specs.Kayles.{kayles_rules, kayles_sets, knock_of, knocks_of, pins_of, played, set_of}
 use Rattle.kayles.specs.Limits.{most_pins}
-use Rattle.kayles.specs.Play.{fallen_after, knocks, knocks_from, left_by, no_knock, offered, taking}
+use Rattle.kayles.specs.Play.{fallen_after, knocks, knocks_from, left_by, offered, taking}
 use Rattle.kayles.specs.Rows.{upright}
 use Rattle.kayles.specs.Laws.Moves.{takes, taken}
 use Rattle.kayles.specs.Laws.Rebuilding.{pins_mask, same_board, same_position}
@@ -41,7 +41,7 @@ few_knocks p = omega (arith, few_from 1 (pins_of p), row_few p.board)
 
 -- the position after move m
 abbrev pub after : Position → ℕ → Position
-after p m = played p (slice_index_or (knocks_of p) m no_knock)
+after p m = played p (knock_of p m)
 
 row_left : (p : Position) (j c : ℕ) → pins_of (played p (taking (1 + j) c)) ≡ fallen_after j c (pins_of p)
 unfolding left_by
@@ -92,7 +92,7 @@ has_key s p i =
     ap₂ (λ w c. record { word = w; counting = c }) (eqb-true s.word (word (pins_of p)) b.0) ((booleans_Decides s.counting p.counting).0 b.1)
 
 pub own : (p : Position) → In kayles_sets (set_of p) p
-own p = and_from _ _ (eq-eqb (word (pins_of p)) (word (pins_of p)) refl) ((booleans_Decides p.counting p.counting).1 refl)
+own p = grind (arith, nat_tests, (booleans_Decides p.counting p.counting).1 refl)
 
 -- one set is one side to move and as many runs of each length
 pub set_runs : (p q : Position) → set_of p ≡ set_of q → Same (pins_of p) (pins_of q)
@@ -109,9 +109,6 @@ follows p q e m h =
     let n = row_move q f.0 r.1 r.2 f.1 in
     (n.0, n.1, runs_set (after p m) (after q n.0) (λ x g. ap (counted x 0) r.4 ∙ f.2 x g ∙ sym (ap (counted x 0) n.2)) (ap (λ s. not s.counting) e))
 
-both_ended : (m n : ℕ) → (0 < m → 0 < n) → (0 < n → 0 < m) → (n == 0) ≡ (m == 0)
-both_ended m n a b = grind (arith, nat_tests)
-
 by_runs : ByKey kayles_rules kayles_sets set_of
 by_runs = record {
   own = own;
@@ -122,9 +119,7 @@ by_runs = record {
   low_weight = λ s. omega arith;
   side = λ p q e. ap (λ s. s.counting) (sym e);
   top = λ p q e. refl;
-  score = λ p q e.
-      let ended = both_ended (length (knocks_of p)) (length (knocks_of q)) (λ l. omega (arith, (follows p q e 0 l).1)) (λ l. omega (arith, (follows q p (sym e) 0 l).1)) in
-      ap₂ (λ t c. cond (t && not c) 1 0) ended (ap (λ s. s.counting) (sym e));
+  score = λ p q e. grind (arith, nat_tests, follows p q e 0, follows q p (sym e) 0, ap (λ s. s.counting) e);
   follow = λ p q e m h. let f = follows p q e m h in (f.0, f.1, refl, f.2);
 }
 
