@@ -1,5 +1,5 @@
 -- Moves on the mask: which can be made, how many there are, and what they leave.
-use Rattle.std.proofs.Common.{◌≡◌, ℕ, zero, suc, ◌+◌, ◌-◌, ◌*◌, ◌/◌, ◌%◌, ◌^◌, ◌<◌, ◌≤◌, min, cond, T, eqb, List, [], ◌∷◌, length, sym, refl, ap, ◌∙◌, subst, mod-eq_of_lt, pow-suc, arith, pow_pos, pow_mono, shr-shr}
+use Rattle.std.proofs.Common.{◌≡◌, ℕ, zero, suc, ◌+◌, ◌-◌, ◌*◌, ◌/◌, ◌%◌, ◌^◌, ◌<◌, ◌≤◌, cond, T, eqb, List, [], ◌∷◌, length, refl, ap, ◌∙◌, subst, add-mul, mod-eq_of_lt, pow-suc, arith, pow_pos, pow_mono, shr-shr}
 use native.Mathlib.Nat.{mod-one, zero-mod}
 use lib.Bits.{and_mask, and_step, bit_and}
 use lib.Count.{ones, ones_step}
@@ -7,7 +7,7 @@ use lib.Pow.{mod-pow-add}
 use Rattle.std.specs.Bool.{Decides}
 use Rattle.std.proofs.lemmas.Bool.{cond_both, eq-eqb, eqb-false, eqb-true}
 use Rattle.std.proofs.lemmas.Bool.Decides.{nat_tests}
-use Rattle.std.proofs.lemmas.Nat.{and-not, and_comm, and_shr, pow-add}
+use Rattle.std.proofs.lemmas.Nat.{and-not, and_comm, and_le_l, and_shr, pow-add}
 use Rattle.std.proofs.lemmas.Nat.Bits.{and_high}
 use Rattle.kayles.specs.declared.board.Board.{Board}
 use Rattle.kayles.specs.declared.board.Pin.{Pin}
@@ -93,18 +93,11 @@ length_from i (Standing ∷ ps) = grind (arith, nat_tests, length_from (suc i) p
 length_from i (Down ∷ ps) = grind (arith, nat_tests, length_from (suc i) ps)
 
 -- two pins that stand side by side are two bits that are 1
-pair_bit : (n m : ℕ) → m < 2 ^ n → cond (front 2 (pins n m)) 1 0 ≡ min (m % 2) (m / 2 % 2)
-pair_bit n m h =
-    cond_both (front 2 (pins n m)) 1 0 (λ v. v ≡ min (m % 2) (m / 2 % 2))
-    (λ e. omega (arith, low_bits m 1, front_bits 2 n m h (subst T (sym e) tt)))
-    (λ e. let no_three : m % 2 ^ 2 ≡ 2 ^ 2 - 1 → ⊥ = λ f. subst T e (bits_front 2 n m h f) in omega (arith, low_bits m 1))
-
 couples_pins : (n m : ℕ) → m < 2 ^ n → couples (pins n m) ≡ ones (bit_and m (m / 2))
-unfolding pins couples ones
+unfolding pins couples ones front
 couples_pins zero m h = grind arith
-couples_pins (suc n) m h =
-    let both = and_step m (m / 2) in
-    omega (arith, pair_bit (suc n) m h, couples_pins n (m / 2) (omega (arith, pow-suc 2 n)), ones_step (bit_and m (m / 2)), ap ones (and_shr m (m / 2) 1))
+couples_pins (suc zero) m h = grind (arith, nat_tests, and_step m (m / 2), ones_step (bit_and m (m / 2)), and_shr m (m / 2) 1, couples_pins zero (m / 2))
+couples_pins (suc (suc n)) m h = grind (arith, nat_tests, and_step m (m / 2), ones_step (bit_and m (m / 2)), and_shr m (m / 2) 1, pow-suc 2 (suc n), couples_pins (suc n) (m / 2))
 
 pub knocks_ones : (b : Board) → ones b.standing + ones (bit_and b.standing (b.standing / 2)) ≡ length (knocks (row b))
 unfolding knocks
@@ -137,26 +130,24 @@ fallen_pins (suc k) (suc n) m t =
     let f = front_cons k m (pins n (m / 2)) t in
     grind (arith, nat_tests, bite_more k, f.0, fallen_pins k n (m / 2) f.1)
 
-front_le : (k n m : ℕ) → T (front k (pins n m)) → bite 0 k ≤ m
-unfolding pins front
-front_le zero n m t = omega (arith, bite_none)
-front_le (suc k) zero m t = absurd t
-front_le (suc k) (suc n) m t =
-    let f = front_cons k m (pins n (m / 2)) t in
-    omega (arith, bite_more k, f.0, front_le k n (m / 2) f.1)
+-- where they stand they are 1
+inside : (i k n m : ℕ) → m < 2 ^ n → T (up_after i k (pins n m)) → bit_and m (bite i k) ≡ bite i k
+unfolding bite
+inside i k n m h t =
+    let whole : 2 ^ k - 1 + 1 ≡ 2 ^ k = omega (arith, pow_pos k) in
+    let is_bite : 2 ^ (k + i) - 2 ^ i ≡ bite i k = grind (arith, pow-add 2 k i, add-mul (2 ^ k - 1) 1 (2 ^ i), whole) in
+    grind (arith, is_bite, and_high m k i, up_bits i k n m h t)
 
-bite_le : (i k n m : ℕ) → T (up_after i k (pins n m)) → bite i k ≤ m
-unfolding pins up_after
-bite_le zero k n m t = front_le k n m t
-bite_le (suc i) k zero m t = absurd t
-bite_le (suc i) k (suc n) m t = omega (arith, bite_up i k, bite_le i k n (m / 2) t)
+bite_le : (i k n m : ℕ) → m < 2 ^ n → T (up_after i k (pins n m)) → bite i k ≤ m
+bite_le i k n m h t = omega (arith, inside i k n m h t, and_le_l m (bite i k))
 
-left_pins : (i k n m : ℕ) → T (up_after i k (pins n m)) → pins n (m - bite i k) ≡ fallen_after i k (pins n m)
+left_pins : (i k n m : ℕ) → m < 2 ^ n → T (up_after i k (pins n m)) → pins n (m - bite i k) ≡ fallen_after i k (pins n m)
 unfolding pins up_after fallen_after
-left_pins zero k n m t = fallen_pins k n m t
-left_pins (suc i) k zero m t = refl
-left_pins (suc i) k (suc n) m t =
-    grind (arith, bite_up i k, bite_le i k n (m / 2) t, left_pins i k n (m / 2) t)
+left_pins zero k n m h t = fallen_pins k n m t
+left_pins (suc i) k zero m h t = refl
+left_pins (suc i) k (suc n) m h t =
+    let low : m / 2 < 2 ^ n = omega (arith, pow-suc 2 n) in
+    grind (arith, bite_up i k, bite_le i k n (m / 2) low t, left_pins i k n (m / 2) low t)
 
 -- the pins that stand are on the board
 up_in : (i n : ℕ) (ps : List Pin) → 0 < n → T (up_after i n ps) → i < length ps
@@ -175,21 +166,17 @@ module _ (b : Board) (k : Knock) (is : IsKnock (row b) k) where
   pub pin_low : (1 ≤ k.pin) × (k.pin - 1 < 32)
   pin_low = let u = knock_up (row b) k is in (u.0, omega (arith, u.0, up_in (k.pin - 1) k.pins (row b) is.some u.1, length-pins b.count b.standing, b.few))
 
-  -- to clear the bits of the move is to subtract them, since they are all 1
+  -- to clear the bits of the move is to subtract them
   cleared : bit_and b.standing (2 ^ 32 - 1 - bite (k.pin - 1) k.pins) ≡ b.standing - bite (k.pin - 1) k.pins
-  unfolding bite
   cleared =
-      let u = (knock_up (row b) k is).1 in
       let i = k.pin - 1 in
-      let low = low_mask b in
-      let most = bite_le i k.pins b.count b.standing u in
-      let is_bite : 2 ^ (k.pins + i) - 2 ^ i ≡ bite i k.pins = grind (arith, pow-add 2 k.pins i, pow_pos k.pins) in
-      grind (arith, is_bite, and-not 32 (bite i k.pins) b.standing, and_comm b.standing, and_high b.standing k.pins i, up_bits i k.pins b.count b.standing b.within u)
+      let u = (knock_up (row b) k is).1 in
+      grind (arith, low_mask b, bite_le i k.pins b.count b.standing b.within u, inside i k.pins b.count b.standing b.within u, and-not 32 (bite i k.pins) b.standing, and_comm b.standing)
 
   pub row_left : (w : ℕ) → w ≡ 2 ^ k.pins - 1 → pins b.count (bit_and b.standing (4294967295 - (w * 2 ^ (k.pin - 1)) % 4294967296)) ≡ left_by k (row b)
   unfolding left_by bite
   row_left w e =
-      let u = (knock_up (row b) k is).1 in
       let i = k.pin - 1 in
-      let whole : (w * 2 ^ i) % 4294967296 ≡ bite i k.pins = rw e (mod-eq_of_lt (omega (arith, bite_le i k.pins b.count b.standing u, low_mask b))) in
-      rw (whole, cleared) (left_pins i k.pins b.count b.standing u)
+      let u = (knock_up (row b) k is).1 in
+      let whole : (w * 2 ^ i) % 4294967296 ≡ bite i k.pins = rw e (mod-eq_of_lt (omega (arith, bite_le i k.pins b.count b.standing b.within u, low_mask b))) in
+      rw (whole, cleared) (left_pins i k.pins b.count b.standing b.within u)
