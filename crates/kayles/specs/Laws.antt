@@ -25,7 +25,7 @@ use Rattle.kayles.specs.Laws.Splitting.{Same, counted, lower, matched, up_after,
 use Rattle.kayles.specs.Laws.Words.{same_word, word, word_same}
 use Rattle.search.specs.Games.{GameLaws}
 use Rattle.search.specs.Sets.{In, SetLaws}
-use Rattle.search.proofs.SetsByKey.{ByKey, laws_by_key}
+use Rattle.search.proofs.SetsByKey.{laws_by_key}
 
 -- ---- the moves of a position
 
@@ -109,8 +109,8 @@ follows p q e m h =
     let n = row_move q f.0 r.1 r.2 f.1 in
     (n.0, n.1, runs_set (after p m) (after q n.0) (λ x g. ap (counted x 0) r.4 ∙ f.2 x g ∙ sym (ap (counted x 0) n.2)) (ap (λ s. not s.counting) e))
 
-by_runs : ByKey kayles_rules kayles_sets set_of
-by_runs = record {
+pub set_laws : SetLaws kayles_rules kayles_sets
+set_laws = laws_by_key {key = set_of} (record {
   own = own;
   is_key = has_key;
   broad = λ p. refl;
@@ -121,7 +121,4 @@ by_runs = record {
   top = λ p q e. refl;
   score = λ p q e. grind (arith, nat_tests, follows p q e 0, follows q p (sym e) 0, ap (λ s. s.counting) e);
   follow = λ p q e m h. let f = follows p q e m h in (f.0, f.1, refl, f.2);
-}
-
-pub set_laws : SetLaws kayles_rules kayles_sets
-set_laws = laws_by_key by_runs
+})
