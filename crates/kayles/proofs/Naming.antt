@@ -1,28 +1,30 @@
 -- What the set of a position names, and who belongs to it.
-use Rattle.std.proofs.Common.{◌≡◌, ℕ, zero, suc, ◌-◌, ◌*◌, ◌/◌, ◌%◌, ◌<◌, ◌≤◌, eqb, ◌⊎◌, List, [], ◌∷◌, sym, refl, ap, ◌∙◌, inl, inr, arith}
-use Rattle.std.proofs.lemmas.Bool.{cases_lt, cond-false, cond-true, le-ltb, lt-ltb, ne_eqb}
+use Rattle.std.proofs.Common.{◌≡◌, ℕ, zero, suc, ◌-◌, ◌/◌, ◌%◌, ◌<◌, ◌≤◌, ◌⊎◌, List, [], ◌∷◌, sym, refl, ap, ◌∙◌, subst, inl, inr, arith}
+use Rattle.std.proofs.lemmas.Bool.Decides.{nat_tests}
+use Rattle.std.proofs.lemmas.Bool.{cases_lt}
 use Rattle.kayles.specs.declared.board.Pin.{Pin}
 use Rattle.kayles.specs.declared.board.Pin.TheVariants.{Standing, Down}
 use Rattle.kayles.specs.declared.position.Position.{Position}
 use Rattle.kayles.specs.declared.runs.Run.{Run}
 use Rattle.kayles.specs.declared.tally.RunSet.{RunSet}
 use Rattle.kayles.specs.Boards.{row_few}
-use Rattle.kayles.specs.Kayles.{AsManyRuns, Describes, pins_of, set_of}
+use Rattle.kayles.specs.Kayles.{AsManyRuns, Describes, kayles_sets, pins_of, set_of}
 use Rattle.kayles.specs.Limits.{most_pins}
-use Rattle.kayles.specs.Tallies.{HasRuns, all_runs, closed, how_many, named, place, radix, room, runs_from, unit}
+use Rattle.kayles.specs.Tallies.{HasRuns, all_runs, closed, how_many, named, radix, runs_from, unit}
 use Rattle.kayles.specs.Laws.Digits.{place_pos, sum_ext}
-use Rattle.kayles.specs.Laws.{in_like, like}
+use Rattle.kayles.specs.Laws.{has_key, own, runs_set, set_runs}
 use Rattle.kayles.proofs.Sorting.{same_runs}
 use Rattle.kayles.specs.Laws.Splitting.{Same, counted, counted_long}
 use Rattle.kayles.specs.Laws.Counting.{many_runs}
 use Rattle.kayles.proofs.Tallying.{runs_listed}
-use Rattle.kayles.specs.Laws.Words.{pins_are, word_pins, word_runs}
+use Rattle.kayles.specs.Laws.Words.{pins_are, unit_is, word_pins, word_runs}
+use Rattle.search.specs.Sets.{In}
 
 -- no run has no pins
 none_closed : (i n : ℕ) (rs : List Run) → how_many 0 rs ≡ 0 → how_many 0 (closed i n rs) ≡ 0
 unfolding closed how_many
 none_closed i zero rs h = h
-none_closed i (suc n) rs h = omega (arith, h, cond-false {A = ℕ} (eqb (suc n) 0) 1 0 (ne_eqb (suc n) 0 (λ e. omega arith)))
+none_closed i (suc n) rs h = grind (arith, nat_tests)
 
 none_from : (i n : ℕ) (ps : List Pin) → how_many 0 (runs_from i n ps) ≡ 0
 unfolding runs_from how_many
@@ -37,11 +39,11 @@ none ps = none_from 1 0 ps
 -- the digit for each length
 pub named_runs : (p : Position) (x : ℕ) → named (set_of p) x ≡ how_many x (all_runs (pins_of p))
 named_runs p zero = sym (none (pins_of p))
-named_runs p (suc n) = go (cases_lt n most_pins) ∙ sym (many_runs (suc n) (pins_of p) (omega arith))
-  where
-    go : (n < most_pins) ⊎ (most_pins ≤ n) → named (set_of p) (suc n) ≡ counted (suc n) 0 (pins_of p)
-    go (inl h) = cond-true _ _ _ (lt-ltb n most_pins h) ∙ word_runs (pins_of p) (row_few p.board) n h
-    go (inr h) = cond-false _ _ _ (le-ltb n most_pins h) ∙ sym (counted_long (suc n) 0 (pins_of p) (omega (arith, row_few p.board)))
+named_runs p (suc n) =
+    elim (cases_lt n most_pins) [
+      | inl h ↦ grind (arith, nat_tests, word_runs (pins_of p) (row_few p.board) n h, many_runs (suc n) (pins_of p))
+      | inr h ↦ grind (arith, nat_tests, counted_long (suc n) 0 (pins_of p), row_few p.board, many_runs (suc n) (pins_of p))
+    ]
 
 -- a row has one number of runs of each length
 pub has_many : (ps : List Pin) (x n : ℕ) → HasRuns ps x n → how_many x (all_runs ps) ≡ n
@@ -52,38 +54,32 @@ many_has ps x n e = (all_runs ps, runs_listed ps, e)
 
 same_as_many : (ps qs : List Pin) → Same ps qs → AsManyRuns ps qs
 same_as_many ps qs s zero n h = many_has qs 0 n (none qs ∙ sym (none ps) ∙ has_many ps 0 n h)
-same_as_many ps qs s (suc x) n h = many_has qs (suc x) n (many_runs (suc x) qs (omega arith) ∙ sym (s (suc x) (omega arith)) ∙ sym (many_runs (suc x) ps (omega arith)) ∙ has_many ps (suc x) n h)
+same_as_many ps qs s (suc x) n h = many_has qs (suc x) n (grind (arith, many_runs (suc x) qs, many_runs (suc x) ps, s (suc x), has_many ps (suc x) n h))
 
 as_many_same : (ps qs : List Pin) → AsManyRuns ps qs → Same ps qs
-as_many_same ps qs a x h = sym (many_runs x ps h) ∙ sym (has_many qs x (how_many x (all_runs ps)) (a x (how_many x (all_runs ps)) (many_has ps x (how_many x (all_runs ps)) refl))) ∙ many_runs x qs h
+as_many_same ps qs a x h = sym (many_runs x ps h) ∙ sym (has_many qs x _ (a x _ (many_has ps x _ refl))) ∙ many_runs x qs h
 
 pub described : (p : Position) → Describes p (set_of p)
 described p = record {
   side = refl;
   runs = λ x. many_has (pins_of p) x (named (set_of p) x) (sym (named_runs p x));
-  members = λ q. (λ i. let l = like p q i in (sym l.1, same_as_many (pins_of p) (pins_of q) l.0), λ a. in_like p q (as_many_same (pins_of p) (pins_of q) a.1, sym a.0));
+  members = λ q. (
+    λ i. let e = has_key (set_of p) q i in (sym (ap (λ s. s.counting) e), same_as_many (pins_of p) (pins_of q) (set_runs p q e)),
+    λ a. subst (λ s. In kayles_sets s q) (sym (runs_set p q (as_many_same (pins_of p) (pins_of q) a.1) (sym a.0))) (own q),
+  );
   weight = word_pins (pins_of p) (row_few p.board);
   weighed = word_pins (pins_of p) (row_few p.board) ∙ pins_are (pins_of p) (row_few p.board) ∙ sym (sum_ext suc (named (set_of p)) (λ x. counted x 0 (pins_of p)) most_pins (λ x a b. named_runs p x ∙ many_runs x (pins_of p) a));
 }
 
 -- ---- reading a digit
 
--- what is left of a run's unit without its pins
-unit_place : (n : ℕ) → 0 < n → unit n - n ≡ room * place (n - 1)
-unit_place zero h = absurd (omega arith)
-unit_place (suc n) h = omega (arith, ap place (let e : n ≡ suc n - 1 = omega arith in e))
-
 pub unit_above : (n : ℕ) → 0 < n → 0 < unit n - n
-unit_above n h = omega (arith, unit_place n h, place_pos (n - 1))
+unit_above n h = omega (arith, unit_is n h, place_pos (n - 1))
 
 pub read_digit : (s : RunSet) (n u : ℕ) → 0 < n → n ≤ most_pins → u ≡ unit n → s.word / (u - n) % radix n ≡ named s n
 read_digit s zero u a b e = absurd (omega arith)
-read_digit s (suc n) u a b e = ap (λ k. s.word / k % radix (suc n)) (ap (λ k. k - suc n) e ∙ left) ∙ sym (cond-true _ _ _ (lt-ltb n most_pins b))
-  where
-    left : unit (suc n) - suc n ≡ room * place n
-    left = omega arith
+read_digit s (suc n) u a b e = grind (arith, nat_tests)
 
 pub read_none : (s : RunSet) (n : ℕ) → (n ≡ 0) ⊎ (most_pins < n) → 0 ≡ named s n
 read_none s zero d = refl
-read_none s (suc n) (inl e) = absurd (omega arith)
-read_none s (suc n) (inr h) = sym (cond-false _ _ _ (le-ltb n most_pins (omega arith)))
+read_none s (suc n) d = grind (arith, nat_tests)

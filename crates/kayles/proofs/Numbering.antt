@@ -1,5 +1,5 @@
 -- The list of the moves on a row: only moves, in order, and all of them; and the row that a move leaves.
-use Rattle.std.specs.Prelude.{◌≡◌, ℕ, zero, suc, ◌+◌, ◌-◌, ◌<◌, ◌≤◌, Bool, true, false, cond, T, ◌⊎◌, List, [], ◌∷◌, length, slice_index_or, refl}
+use Rattle.std.specs.Prelude.{◌≡◌, ℕ, zero, suc, ◌+◌, ◌-◌, ◌<◌, ◌≤◌, Bool, true, false, cond, T, List, [], ◌∷◌, length, slice_index_or, refl}
 use Rattle.std.proofs.Common.{sym, ap, ◌∙◌, subst, inl, inr, arith}
 use Rattle.std.proofs.lemmas.Bool.{cases_lt}
 use Rattle.kayles.specs.declared.board.Pin.{Pin}
@@ -83,27 +83,23 @@ sorted : (i : ℕ) (ps : List Pin) → Sorted (knocks_from i ps)
 unfolding knocks_from
 sorted i [] = λ j m a b. absurd (omega arith)
 sorted i (p ∷ ps) =
-    offered_sorted i 1 (p ∷ ps) (offered i 2 (p ∷ ps) (knocks_from (suc i) ps))
-    (offered_each (Earlier (taking i 1)) i 2 (p ∷ ps) (knocks_from (suc i) ps) (λ t. inr (refl, omega arith)) (later i 1 ps))
-    (offered_sorted i 2 (p ∷ ps) (knocks_from (suc i) ps) (later i 2 ps) (sorted (suc i) ps))
+    offered_sorted i 1 (p ∷ ps) _
+    (offered_each (Earlier (taking i 1)) i 2 (p ∷ ps) _ (λ t. inr (refl, omega arith)) (later i 1 ps))
+    (offered_sorted i 2 (p ∷ ps) _ (later i 2 ps) (sorted (suc i) ps))
 
 pub listed : (ps : List Pin) → KnocksOf ps (knocks ps)
 unfolding knocks
 listed ps = record {
   each = λ m h.
       let s = takes 1 ps m h in
-      subst (IsKnock ps) (sym (s.3 ∙ ap (λ k. taking k (suc s.1)) (let e : 1 + s.0 ≡ suc s.0 = omega arith in e))) (up_knock ps s.0 (suc s.1) (omega arith) (omega (arith, s.2)) s.4);
+      subst (IsKnock ps) (sym (s.3 ∙ ap (λ k. taking k (suc s.1)) (omega arith))) (up_knock ps s.0 (suc s.1) (omega arith) (omega (arith, s.2)) s.4);
   order = sorted 1 ps;
   all = λ k i.
       let u = knock_up ps k i in
-      let same : (n : ℕ) → k.pins ≡ suc n → taking (1 + (k.pin - 1)) (suc n) ≡ k = λ n e. λ t. record { pin = (let f : 1 + (k.pin - 1) ≡ k.pin = omega (arith, u.0) in f) t; pins = sym e t } in
-      found k i u k.pins refl same;
+      let n : suc (k.pins - 1) ≡ k.pins = omega (arith, i.some) in
+      let up = subst (λ c. T (up_after (k.pin - 1) c ps)) (sym n) u.1 in
+      subst (λ n. Has (knocks_from 1 ps) (taking k.pin n)) n (taken 1 (k.pin - 1) (k.pins - 1) k.pin ps (omega (arith, i.few)) (omega (arith, u.0)) up);
 }
-  where
-    found : (k : Knock) → IsKnock ps k → (0 < k.pin) × T (up_after (k.pin - 1) k.pins ps) → (n : ℕ) → k.pins ≡ n → ((n : ℕ) → k.pins ≡ suc n → taking (1 + (k.pin - 1)) (suc n) ≡ k) → Has (knocks_from 1 ps) k
-    found k i u zero e same = absurd (omega (arith, i.some))
-    found k i u (suc n) e same =
-        subst (Has (knocks_from 1 ps)) (same n e) (taken 1 (k.pin - 1) n ps (omega (arith, i.few)) (subst (λ c. T (up_after (k.pin - 1) c ps)) e u.1))
 
 -- ---- the row that a move leaves
 
@@ -128,14 +124,12 @@ after_at (suc i) n j [] a b = refl
 after_at (suc i) n zero (p ∷ ps) a b = absurd (omega arith)
 after_at (suc i) n (suc j) (p ∷ ps) a b = after_at i n j ps (omega arith) (omega arith)
 
-after_else : (i n j : ℕ) (ps : List Pin) → (j < i) ⊎ (i + n ≤ j) → slice_index_or (fallen_after i n ps) j Down ≡ slice_index_or ps j Down
+after_else : (i n j : ℕ) (ps : List Pin) → (i ≤ j → i + n ≤ j) → slice_index_or (fallen_after i n ps) j Down ≡ slice_index_or ps j Down
 unfolding fallen_after
-after_else zero n j ps (inl a) = absurd (omega arith)
-after_else zero n j ps (inr a) = fallen_past n j ps (omega arith)
+after_else zero n j ps d = fallen_past n j ps (omega (arith, d (omega arith)))
 after_else (suc i) n j [] d = refl
 after_else (suc i) n zero (p ∷ ps) d = refl
-after_else (suc i) n (suc j) (p ∷ ps) (inl a) = after_else i n j ps (inl (omega arith))
-after_else (suc i) n (suc j) (p ∷ ps) (inr a) = after_else i n j ps (inr (omega arith))
+after_else (suc i) n (suc j) (p ∷ ps) d = after_else i n j ps (λ l. omega (arith, d (omega arith)))
 
 pub leaves : (ps : List Pin) (k : Knock) → 0 < k.pin → Leaves ps k (left_by k ps)
 unfolding left_by
@@ -147,9 +141,4 @@ leaves ps k h = record { pins = length-left k ps; hit = hit; others = others }
 
     others : (i : ℕ) → (Hits k i → ⊥) → slice_index_or (Down ∷ fallen_after (k.pin - 1) k.pins ps) i Down ≡ slice_index_or (Down ∷ ps) i Down
     others zero a = refl
-    others (suc j) a = after_else (k.pin - 1) k.pins j ps (apart (cases_lt j (k.pin - 1)) (cases_lt j (k.pin - 1 + k.pins)))
-      where
-        apart : (j < k.pin - 1) ⊎ (k.pin - 1 ≤ j) → (j < k.pin - 1 + k.pins) ⊎ (k.pin - 1 + k.pins ≤ j) → (j < k.pin - 1) ⊎ (k.pin - 1 + k.pins ≤ j)
-        apart (inl b) c = inl b
-        apart (inr b) (inr c) = inr c
-        apart (inr b) (inl c) = absurd (a (omega arith, omega arith))
+    others (suc j) a = after_else (k.pin - 1) k.pins j ps (λ l. elim (cases_lt j (k.pin - 1 + k.pins)) [ inl b ↦ absurd (a (omega arith, omega arith)) | inr b ↦ b ])

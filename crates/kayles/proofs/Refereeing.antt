@@ -1,11 +1,13 @@
 -- The rules are those of the game.
-use Rattle.std.proofs.Common.{◌≡◌, ℕ, zero, suc, Bool, true, false, cond, not, ◌&&◌, eqb, List, length, get_or, sym, refl, ◌∙◌, subst, ap₂, arith}
+use Rattle.std.proofs.Common.{ℕ, List, length, sym, refl, ◌∙◌, subst, arith, inl, inr}
+use Rattle.std.proofs.lemmas.Bool.Decides.{nat_tests}
+use Rattle.std.proofs.lemmas.Bool.{cases_eq}
 use Rattle.kayles.specs.declared.board.Pin.{Pin}
 use Rattle.kayles.specs.declared.position.Knock.{Knock}
 use Rattle.kayles.specs.declared.position.Position.{Position}
 use Rattle.kayles.specs.Boards.{row_few}
 use Rattle.kayles.specs.Kayles.{kayles_rules, knock_of, knocks_of, pins_of, played}
-use Rattle.kayles.specs.Play.{IsKnock, Leaves, left_by, no_knock, taking}
+use Rattle.kayles.specs.Play.{IsKnock, Leaves, left_by, taking}
 use Rattle.kayles.specs.Promises.{LeadsTo, RulesRight, SetsRight}
 use Rattle.kayles.specs.Rows.{Stands}
 use Rattle.kayles.specs.Laws.{game_laws}
@@ -15,7 +17,7 @@ use Rattle.kayles.specs.Laws.Rebuilding.{board_is, pins_mask, same_position}
 use Rattle.kayles.proofs.Sorting.{same_knocks}
 use Rattle.search.specs.Games.{Ended}
 
-leads : (p : Position) (k : Knock) → IsKnock (pins_of p) k → LeadsTo p k (played p k)
+pub leads : (p : Position) (k : Knock) → IsKnock (pins_of p) k → LeadsTo p k (played p k)
 leads p k is = record {
   row = subst (Leaves (pins_of p) k) (sym (pins_mask (left_by k (pins_of p)))) (leaves (pins_of p) k (knock_up (pins_of p) k is).0);
   turn = refl;
@@ -23,22 +25,16 @@ leads p k is = record {
 
 -- a standing pin is a move
 standing_knock : (ps : List Pin) (i : ℕ) → Stands ps i → IsKnock ps (taking i 1)
-standing_knock ps i s = record { some = omega arith; few = omega arith; stand = λ j h. subst (Stands ps) (let e : i ≡ j = omega (arith, h.0, h.1) in e) s }
+standing_knock ps i s = record { some = omega arith; few = omega arith; stand = λ j h. subst (Stands ps) (omega (arith, h.0, h.1)) s }
 
 none_stands : (p : Position) → Ended kayles_rules p → (i : ℕ) → Stands (pins_of p) i → ⊥
 none_stands p e i s = let m = (listed (pins_of p)).all (taking i 1) (standing_knock (pins_of p) i s) in omega (arith, m.1)
 
 no_move : (p : Position) → ((i : ℕ) → Stands (pins_of p) i → ⊥) → Ended kayles_rules p
-no_move p none = go (length (knocks_of p)) refl
-  where
-    go : (n : ℕ) → length (knocks_of p) ≡ n → length (knocks_of p) ≡ 0
-    go zero e = e
-    go (suc n) e =
-        let k = (listed (pins_of p)).each 0 (omega arith) in
-        absurd (none (get_or (knocks_of p) 0 no_knock).pin (k.stand (get_or (knocks_of p) 0 no_knock).pin (omega arith, omega (arith, k.some))))
-
-end_score : (p : Position) (c : Bool) → Ended kayles_rules p → p.counting ≡ c → kayles_rules.score p ≡ cond (not c) 1 0
-end_score p c e f = ap₂ (λ n c. cond (eqb n 0 && not c) 1 0) e f
+no_move p none = elim (cases_eq (length (knocks_of p)) 0) [
+  | inl e ↦ e
+  | inr n ↦ let k = (listed (pins_of p)).each 0 (omega arith) in absurd (none (knock_of p 0).pin (k.stand (knock_of p 0).pin (omega arith, omega (arith, k.some))))
+]
 
 pub rules_right : RulesRight
 rules_right = record {
@@ -49,8 +45,8 @@ rules_right = record {
   no_more = λ p. (knocks_of p, listed (pins_of p), omega arith);
   leads = λ p m h. leads p (knock_of p m) ((listed (pins_of p)).each m h);
   ended = λ p. (none_stands p, no_move p);
-  won = λ p e c. end_score p false e c;
-  lost = λ p e c. end_score p true e c;
+  won = λ p e c. grind (arith, nat_tests);
+  lost = λ p e c. grind (arith, nat_tests);
   not_yet = game_laws.no_score;
   gain = λ p m. refl;
   top = λ p. refl;

@@ -1,10 +1,14 @@
 -- Moves on the mask: which can be made, how many there are, and what they leave.
-use Rattle.std.proofs.Common.{◌≡◌, ℕ, zero, suc, ◌+◌, ◌-◌, ◌*◌, ◌/◌, ◌%◌, ◌^◌, ◌<◌, ◌≤◌, min, Bool, true, false, cond, T, eqb, List, [], ◌∷◌, length, sym, refl, ap, ◌∙◌, subst, ap₂, mod-eq_of_lt, mul_assoc, mul_comm, pow-suc, arith, pow_pos, pow_mono, shr-shr}
+use Rattle.std.proofs.Common.{◌≡◌, ℕ, zero, suc, ◌+◌, ◌-◌, ◌*◌, ◌/◌, ◌%◌, ◌^◌, ◌<◌, ◌≤◌, cond, T, eqb, List, [], ◌∷◌, length, refl, ap, ◌∙◌, subst, add-mul, mod-eq_of_lt, pow-suc, arith, pow_pos, pow_mono, shr-shr}
 use native.Mathlib.Nat.{mod-one, zero-mod}
 use lib.Bits.{and_mask, and_step, bit_and}
 use lib.Count.{ones, ones_step}
 use lib.Pow.{mod-pow-add}
-use Rattle.std.proofs.lemmas.Bool.{eq-eqb, eqb-true}
+use Rattle.std.specs.Bool.{Decides}
+use Rattle.std.proofs.lemmas.Bool.{cond_both, eq-eqb, eqb-false, eqb-true}
+use Rattle.std.proofs.lemmas.Bool.Decides.{nat_tests}
+use Rattle.std.proofs.lemmas.Nat.{and-not, and_comm, and_le_l, and_shr, pow-add}
+use Rattle.std.proofs.lemmas.Nat.Bits.{and_high}
 use Rattle.kayles.specs.declared.board.Board.{Board}
 use Rattle.kayles.specs.declared.board.Pin.{Pin}
 use Rattle.kayles.specs.declared.board.Pin.TheVariants.{Standing, Down}
@@ -19,15 +23,11 @@ use Rattle.kayles.specs.Laws.Splitting.{up_after}
 -- ---- n pins from some place on stand where n bits of the mask are 1
 
 low_bits : (m n : ℕ) → m % 2 ^ suc n ≡ (m / 2 % 2 ^ n) * 2 + m % 2
-low_bits m n = ap (λ k. m % 2 ^ k) (let e : suc n ≡ n + 1 = omega arith in e) ∙ mod-pow-add m n 1
+low_bits m n = ap (λ k. m % 2 ^ k) (omega arith) ∙ mod-pow-add m n 1
 
 -- a bit is 1 where its pin stands
 bit_cases : (P : Pin → Type 0) (b : ℕ) → (b ≡ 1 → P Standing) → ((b ≡ 1 → ⊥) → P Down) → P (pin_of b)
-bit_cases P b up down = go (eqb b 1) refl
-  where
-    go : (c : Bool) → eqb b 1 ≡ c → P (cond c Standing Down)
-    go true e = up (eqb-true b 1 e)
-    go false e = down (λ f. subst T e (subst (λ k. T (eqb k 1)) (sym f) tt))
+bit_cases P b up down = cond_both (eqb b 1) Standing Down P (λ e. up (eqb-true b 1 e)) (λ e. down (eqb-false b 1 e))
 
 front_cons : (n m : ℕ) (ps : List Pin) → T (front (suc n) (pin_of (m % 2) ∷ ps)) → (m % 2 ≡ 1) × T (front n ps)
 unfolding front
@@ -49,36 +49,35 @@ bits_front : (k n m : ℕ) → m < 2 ^ n → m % 2 ^ k ≡ 2 ^ k - 1 → T (fron
 unfolding pins front
 bits_front zero n m h e = tt
 bits_front (suc k) zero m h e =
-    let none : m / 2 % 2 ^ k ≡ 0 = ap (λ n. n / 2 % 2 ^ k) (let e : m ≡ 0 = omega arith in e) ∙ zero-mod (2 ^ k) in
-    absurd (omega (arith, low_bits m k, pow-suc 2 k, pow_pos k))
+    absurd (grind (arith, low_bits m k, pow-suc 2 k, pow_pos k, zero-mod (2 ^ k)))
 bits_front (suc k) (suc n) m h e =
     cons_front k m (pins n (m / 2)) (omega (arith, low_bits m k, pow-suc 2 k, pow_pos k)) (bits_front k n (m / 2) (omega (arith, pow-suc 2 n)) (omega (arith, low_bits m k, pow-suc 2 k, pow_pos k)))
 
 half_down : (m i : ℕ) → m / 2 ^ suc i ≡ m / 2 / 2 ^ i
-half_down m i = ap (λ n. m / 2 ^ n) (let e : suc i ≡ 1 + i = omega arith in e) ∙ sym (shr-shr m 1 i)
+half_down m i = grind (arith, shr-shr m 1 i)
 
 up_bits : (i k n m : ℕ) → m < 2 ^ n → T (up_after i k (pins n m)) → m / 2 ^ i % 2 ^ k ≡ 2 ^ k - 1
 unfolding pins up_after
-up_bits zero k n m h t = ap (λ x. x % 2 ^ k) (let e : m / 1 ≡ m = omega arith in e) ∙ front_bits k n m h t
+up_bits zero k n m h t = grind (arith, front_bits k n m h t)
 up_bits (suc i) k zero m h t = absurd t
-up_bits (suc i) k (suc n) m h t = ap (λ x. x % 2 ^ k) (half_down m i) ∙ up_bits i k n (m / 2) (omega (arith, pow-suc 2 n)) t
+up_bits (suc i) k (suc n) m h t = grind (arith, half_down m i, up_bits i k n (m / 2) (omega (arith, pow-suc 2 n)) t)
 
 bits_up : (i k n m : ℕ) → m < 2 ^ n → i < n → m / 2 ^ i % 2 ^ k ≡ 2 ^ k - 1 → T (up_after i k (pins n m))
 unfolding pins up_after
-bits_up zero k n m h l e = bits_front k n m h (ap (λ x. x % 2 ^ k) (let e : m ≡ m / 1 = omega arith in e) ∙ e)
+bits_up zero k n m h l e = bits_front k n m h (grind arith)
 bits_up (suc i) k zero m h l e = absurd (omega arith)
-bits_up (suc i) k (suc n) m h l e = bits_up i k n (m / 2) (omega (arith, pow-suc 2 n)) (omega arith) (ap (λ x. x % 2 ^ k) (sym (half_down m i)) ∙ e)
+bits_up (suc i) k (suc n) m h l e = bits_up i k n (m / 2) (omega (arith, pow-suc 2 n)) (omega arith) (grind (arith, half_down m i))
 
--- the test that the code makes, both ways
-module _ (b : Board) (k : Knock) (w : ℕ) (low : 1 ≤ k.pin) (high : k.pin ≤ b.count) (some : 1 ≤ k.pins) (few : k.pins ≤ 2) (e : w ≡ 2 ^ k.pins - 1) where
-  pub tested_knock : eqb (bit_and (b.standing / 2 ^ (k.pin - 1)) w) w ≡ true → IsKnock (row b) k
-  tested_knock t =
-      let ones : b.standing / 2 ^ (k.pin - 1) % 2 ^ k.pins ≡ 2 ^ k.pins - 1 = sym (and_mask (b.standing / 2 ^ (k.pin - 1)) k.pins) ∙ ap (bit_and (b.standing / 2 ^ (k.pin - 1))) (sym e) ∙ eqb-true (bit_and (b.standing / 2 ^ (k.pin - 1)) w) w t ∙ e in
-      subst (λ i. IsKnock (row b) (taking i k.pins)) (let e : suc (k.pin - 1) ≡ k.pin = omega arith in e) (up_knock (row b) (k.pin - 1) k.pins some few (bits_up (k.pin - 1) k.pins b.count b.standing b.within (omega arith) ones))
-
-  pub knock_tested : IsKnock (row b) k → eqb (bit_and (b.standing / 2 ^ (k.pin - 1)) w) w ≡ true
-  knock_tested is =
-      eq-eqb (bit_and (b.standing / 2 ^ (k.pin - 1)) w) w (ap (bit_and (b.standing / 2 ^ (k.pin - 1))) e ∙ and_mask (b.standing / 2 ^ (k.pin - 1)) k.pins ∙ up_bits (k.pin - 1) k.pins b.count b.standing b.within (knock_up (row b) k is).1 ∙ sym e)
+-- the test that the code makes
+pub decides_knock : (b : Board) (k : Knock) (w : ℕ) → 1 ≤ k.pin → k.pin ≤ b.count → 1 ≤ k.pins → k.pins ≤ 2 → w ≡ 2 ^ k.pins - 1 → Decides (eqb (bit_and (b.standing / 2 ^ (k.pin - 1)) w) w) (IsKnock (row b) k)
+decides_knock b k w low high some few e =
+    let i = k.pin - 1 in
+    let m = b.standing / 2 ^ i in (
+      λ t.
+          let ones : m % 2 ^ k.pins ≡ 2 ^ k.pins - 1 = grind (arith, and_mask m k.pins, eqb-true (bit_and m w) w t) in
+          subst (λ i. IsKnock (row b) (taking i k.pins)) (omega arith) (up_knock (row b) i k.pins some few (bits_up i k.pins b.count b.standing b.within (omega arith) ones)),
+      λ is. eq-eqb _ _ (grind (arith, and_mask m k.pins, up_bits i k.pins b.count b.standing b.within (knock_up (row b) k is).1)),
+    )
 
 -- ---- how many moves there are
 
@@ -87,39 +86,18 @@ unfoldable couples : List Pin → ℕ
 couples [] = 0
 couples (p ∷ ps) = cond (front 2 (p ∷ ps)) 1 0 + couples ps
 
-length-offered : (i n : ℕ) (ps : List Pin) (ks : List Knock) → length (offered i n ps ks) ≡ cond (front n ps) 1 0 + length ks
-unfolding offered
-length-offered i n ps ks = go (front n ps)
-  where
-    go : (c : Bool) → length (cond c (taking i n ∷ ks) ks) ≡ cond c 1 0 + length ks
-    go true = omega arith
-    go false = omega arith
-
-one_up : (p : Pin) (ps : List Pin) → cond (front 1 (p ∷ ps)) 1 0 + upright ps ≡ upright (p ∷ ps)
-unfolding front upright
-one_up Standing ps = refl
-one_up Down ps = omega arith
-
 length_from : (i : ℕ) (ps : List Pin) → length (knocks_from i ps) ≡ upright ps + couples ps
-unfolding knocks_from couples upright
+unfolding knocks_from couples upright offered front
 length_from i [] = refl
-length_from i (p ∷ ps) =
-    omega (arith, length_from (suc i) ps, length-offered i 1 (p ∷ ps) (offered i 2 (p ∷ ps) (knocks_from (suc i) ps)), length-offered i 2 (p ∷ ps) (knocks_from (suc i) ps), one_up p ps)
+length_from i (Standing ∷ ps) = grind (arith, nat_tests, length_from (suc i) ps)
+length_from i (Down ∷ ps) = grind (arith, nat_tests, length_from (suc i) ps)
 
 -- two pins that stand side by side are two bits that are 1
-pair_bit : (n m : ℕ) → m < 2 ^ n → cond (front 2 (pins n m)) 1 0 ≡ min (m % 2) (m / 2 % 2)
-pair_bit n m h = go (front 2 (pins n m)) refl
-  where
-    go : (c : Bool) → front 2 (pins n m) ≡ c → cond c 1 0 ≡ min (m % 2) (m / 2 % 2)
-    go true e = omega (arith, low_bits m 1, front_bits 2 n m h (subst T (sym e) tt))
-    go false e = let no_three : m % 2 ^ 2 ≡ 2 ^ 2 - 1 → ⊥ = λ f. subst T e (bits_front 2 n m h f) in omega (arith, low_bits m 1)
-
 couples_pins : (n m : ℕ) → m < 2 ^ n → couples (pins n m) ≡ ones (bit_and m (m / 2))
-unfolding pins couples ones
-couples_pins zero m h = ap (λ k. ones (bit_and k (k / 2))) (let e : 0 ≡ m = omega arith in e)
-couples_pins (suc n) m h =
-    let both = and_step m (m / 2) in
-    omega (arith, pair_bit (suc n) m h, couples_pins n (m / 2) (omega (arith, pow-suc 2 n)), ones_step (bit_and m (m / 2)), ap ones (let e : bit_and m (m / 2) / 2 ≡ bit_and (m / 2) (m / 2 / 2) = omega arith in e))
+unfolding pins couples ones front
+couples_pins zero m h = grind arith
+couples_pins (suc zero) m h = grind (arith, nat_tests, and_step m (m / 2), ones_step (bit_and m (m / 2)), and_shr m (m / 2) 1, couples_pins zero (m / 2))
+couples_pins (suc (suc n)) m h = grind (arith, nat_tests, and_step m (m / 2), ones_step (bit_and m (m / 2)), and_shr m (m / 2) 1, pow-suc 2 (suc n), couples_pins (suc n) (m / 2))
 
 pub knocks_ones : (b : Board) → ones b.standing + ones (bit_and b.standing (b.standing / 2)) ≡ length (knocks (row b))
 unfolding knocks
@@ -134,7 +112,7 @@ bite i n = (2 ^ n - 1) * 2 ^ i
 
 bite_up : (i n : ℕ) → bite (suc i) n ≡ 2 * bite i n
 unfolding bite
-bite_up i n = ap (λ k. (2 ^ n - 1) * k) (pow-suc 2 i) ∙ sym (mul_assoc (2 ^ n - 1) (2 ^ i) 2) ∙ mul_comm ((2 ^ n - 1) * 2 ^ i) 2
+bite_up i n = rw (pow-suc 2 i) (grind arith)
 
 bite_more : (n : ℕ) → bite 0 (suc n) ≡ 2 * bite 0 n + 1
 unfolding bite
@@ -144,41 +122,32 @@ bite_none : bite 0 0 ≡ 0
 unfolding bite
 bite_none = refl
 
-even_down : (m : ℕ) → m % 2 ≡ 0 → pin_of (m % 2) ≡ Down
-even_down m e = ap pin_of e
-
 fallen_pins : (k n m : ℕ) → T (front k (pins n m)) → pins n (m - bite 0 k) ≡ fallen k (pins n m)
 unfolding pins fallen
 fallen_pins zero n m t = ap (pins n) (omega (arith, bite_none))
 fallen_pins (suc k) zero m t = refl
 fallen_pins (suc k) (suc n) m t =
     let f = front_cons k m (pins n (m / 2)) t in
-    let z : (m - bite 0 (suc k)) % 2 ≡ 0 = omega (arith, bite_more k, f.0) in
-    let h : (m - bite 0 (suc k)) / 2 ≡ m / 2 - bite 0 k = omega (arith, bite_more k, f.0) in
-    ap₂ ◌∷◌ (even_down (m - bite 0 (suc k)) z) (ap (pins n) h ∙ fallen_pins k n (m / 2) f.1)
+    grind (arith, nat_tests, bite_more k, f.0, fallen_pins k n (m / 2) f.1)
 
-front_le : (k n m : ℕ) → T (front k (pins n m)) → bite 0 k ≤ m
-unfolding pins front
-front_le zero n m t = omega (arith, bite_none)
-front_le (suc k) zero m t = absurd t
-front_le (suc k) (suc n) m t =
-    let f = front_cons k m (pins n (m / 2)) t in
-    omega (arith, bite_more k, f.0, front_le k n (m / 2) f.1)
+-- where they stand they are 1
+inside : (i k n m : ℕ) → m < 2 ^ n → T (up_after i k (pins n m)) → bit_and m (bite i k) ≡ bite i k
+unfolding bite
+inside i k n m h t =
+    let whole : 2 ^ k - 1 + 1 ≡ 2 ^ k = omega (arith, pow_pos k) in
+    let is_bite : 2 ^ (k + i) - 2 ^ i ≡ bite i k = grind (arith, pow-add 2 k i, add-mul (2 ^ k - 1) 1 (2 ^ i), whole) in
+    grind (arith, is_bite, and_high m k i, up_bits i k n m h t)
 
-bite_le : (i k n m : ℕ) → T (up_after i k (pins n m)) → bite i k ≤ m
-unfolding pins up_after
-bite_le zero k n m t = front_le k n m t
-bite_le (suc i) k zero m t = absurd t
-bite_le (suc i) k (suc n) m t = omega (arith, bite_up i k, bite_le i k n (m / 2) t)
+bite_le : (i k n m : ℕ) → m < 2 ^ n → T (up_after i k (pins n m)) → bite i k ≤ m
+bite_le i k n m h t = omega (arith, inside i k n m h t, and_le_l m (bite i k))
 
-left_pins : (i k n m : ℕ) → T (up_after i k (pins n m)) → pins n (m - bite i k) ≡ fallen_after i k (pins n m)
+left_pins : (i k n m : ℕ) → m < 2 ^ n → T (up_after i k (pins n m)) → pins n (m - bite i k) ≡ fallen_after i k (pins n m)
 unfolding pins up_after fallen_after
-left_pins zero k n m t = fallen_pins k n m t
-left_pins (suc i) k zero m t = refl
-left_pins (suc i) k (suc n) m t =
-    let z : (m - bite (suc i) k) % 2 ≡ m % 2 = omega (arith, bite_up i k, bite_le i k n (m / 2) t) in
-    let h : (m - bite (suc i) k) / 2 ≡ m / 2 - bite i k = omega (arith, bite_up i k) in
-    ap₂ ◌∷◌ (ap pin_of z) (ap (pins n) h ∙ left_pins i k n (m / 2) t)
+left_pins zero k n m h t = fallen_pins k n m t
+left_pins (suc i) k zero m h t = refl
+left_pins (suc i) k (suc n) m h t =
+    let low : m / 2 < 2 ^ n = omega (arith, pow-suc 2 n) in
+    grind (arith, bite_up i k, bite_le i k n (m / 2) low t, left_pins i k n (m / 2) low t)
 
 -- the pins that stand are on the board
 up_in : (i n : ℕ) (ps : List Pin) → 0 < n → T (up_after i n ps) → i < length ps
@@ -193,19 +162,21 @@ low_mask : (b : Board) → b.standing < 4294967296
 low_mask b = omega (arith, b.within, pow_mono {i = b.count} {j = 32} b.few)
 
 -- the move that the code takes off the mask
-module _ (b : Board) (k : Knock) (w : ℕ) (is : IsKnock (row b) k) (e : w ≡ 2 ^ k.pins - 1) where
+module _ (b : Board) (k : Knock) (is : IsKnock (row b) k) where
   pub pin_low : (1 ≤ k.pin) × (k.pin - 1 < 32)
   pin_low = let u = knock_up (row b) k is in (u.0, omega (arith, u.0, up_in (k.pin - 1) k.pins (row b) is.some u.1, length-pins b.count b.standing, b.few))
 
-  pub bite_is : (w * 2 ^ (k.pin - 1)) % 4294967296 ≡ bite (k.pin - 1) k.pins
-  unfolding bite
-  bite_is =
-      let most = bite_le (k.pin - 1) k.pins b.count b.standing (knock_up (row b) k is).1 in
-      ap (λ v. (v * 2 ^ (k.pin - 1)) % 4294967296) e ∙ mod-eq_of_lt (omega (arith, most, low_mask b))
+  -- to clear the bits of the move is to subtract them
+  cleared : bit_and b.standing (2 ^ 32 - 1 - bite (k.pin - 1) k.pins) ≡ b.standing - bite (k.pin - 1) k.pins
+  cleared =
+      let i = k.pin - 1 in
+      let u = (knock_up (row b) k is).1 in
+      grind (arith, low_mask b, bite_le i k.pins b.count b.standing b.within u, inside i k.pins b.count b.standing b.within u, and-not 32 (bite i k.pins) b.standing, and_comm b.standing)
 
-  pub bite_fits : (w * 2 ^ (k.pin - 1)) % 4294967296 ≤ b.standing
-  bite_fits = omega (arith, bite_is, bite_le (k.pin - 1) k.pins b.count b.standing (knock_up (row b) k is).1)
-
-  pub row_left : pins b.count (b.standing - (w * 2 ^ (k.pin - 1)) % 4294967296) ≡ left_by k (row b)
-  unfolding left_by
-  row_left = ap (λ v. pins b.count (b.standing - v)) bite_is ∙ left_pins (k.pin - 1) k.pins b.count b.standing (knock_up (row b) k is).1
+  pub row_left : (w : ℕ) → w ≡ 2 ^ k.pins - 1 → pins b.count (bit_and b.standing (4294967295 - (w * 2 ^ (k.pin - 1)) % 4294967296)) ≡ left_by k (row b)
+  unfolding left_by bite
+  row_left w e =
+      let i = k.pin - 1 in
+      let u = (knock_up (row b) k is).1 in
+      let whole : (w * 2 ^ i) % 4294967296 ≡ bite i k.pins = rw e (mod-eq_of_lt (omega (arith, bite_le i k.pins b.count b.standing b.within u, low_mask b))) in
+      rw (whole, cleared) (left_pins i k.pins b.count b.standing b.within u)

@@ -5,14 +5,14 @@ ghost use Rattle.kayles.specs.Limits.{most_pins};
 pub const MOST_PINS: u8 = 32;
 
 // One pin of a board.
-#[derive(Clone, Copy)]
+#[derive(Clone, Copy, PartialEq, Eq, Debug)]
 pub enum Pin {
-    Standing,
-    Down,
+    Standing = 1,
+    Down = 0,
 }
 
 // A row of pins. Bit i of `standing` is 1 where pin i + 1 stands.
-#[derive(Clone, Copy)]
+#[derive(Clone, Copy, PartialEq, Eq, Debug)]
 pub struct Board {
     pub(crate) count: u8,
     pub(crate) standing: u32,

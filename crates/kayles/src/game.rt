@@ -70,11 +70,7 @@ impl Game for Kayles {
     }
 
     fn score(p: &Position) -> u8 {
-        if p.board.moves() == 0 && !p.counting {
-            1
-        } else {
-            0
-        }
+        u8::from(p.board.moves() == 0 && !p.counting)
     }
 
     fn top(p: &Position) -> u8 {
@@ -107,19 +103,19 @@ impl Game for Kayles {
     }
 
     fn belongs(s: &RunSet, v: &RunSet) -> bool {
-        s.word == v.word && s.counting == v.counting
+        s == v
     }
 
     fn broad(p: &Position) -> RunSet {
-        RunSet::of(*p)
+        Self::probe(p)
     }
 
     fn pull(p: &Position, m: &Knock, t: &RunSet) -> RunSet {
-        RunSet::of(*p)
+        Self::probe(p)
     }
 
     fn narrow(p: &Position, s: &RunSet, t: &RunSet) -> RunSet {
-        RunSet::of(*p)
+        Self::probe(p)
     }
 
     fn weight(s: &RunSet) -> u8 {

@@ -1,5 +1,5 @@
 // The moves on a board.
-ghost use Rattle.std.specs.Prelude.{◌≡◌, ◌-◌, ◌^◌, ◌≤◌, length, Decides, MatchOption};
+ghost use Rattle.std.specs.Prelude.{◌≡◌, ◌-◌, ◌^◌, ◌≤◌, ◌↔◌, length, IsTrue, MatchOption};
 ghost use Rattle.std.specs.List.{slice_get};
 ghost use Rattle.kayles.specs.Play.{IsKnock, Numbered, Unnumbered, knocks, left_by};
 ghost use Rattle.kayles.specs.Rows.{row};
@@ -9,17 +9,20 @@ use crate::position::Knock;
 
 // One pin or two, as a mask.
 fn mask_of(pins: u8) -> u32
-    requires { (1 ≤ pins) × (pins ≤ 2) }
+    requires { pins ≤ 2 }
     ensures { result ≡ 2 ^ pins - 1 }
 {
-    if pins == 1 { 1 } else { 3 }
+    (1 << pins) - 1
 }
 
 impl Board {
     // Whether the one or two pins of a knock that begins on the board stand.
     fn can_take(self, k: Knock) -> bool
-        requires { (1 ≤ k.pin) × ((k.pin ≤ self.count) × ((1 ≤ k.pins) × (k.pins ≤ 2))) }
-        ensures { Decides result (IsKnock (row self) k) }
+        requires first { 1 ≤ k.pin }
+        requires on_board { k.pin ≤ self.count }
+        requires some { 1 ≤ k.pins }
+        requires few { k.pins ≤ 2 }
+        ensures { IsTrue result ↔ IsKnock (row self) k }
     {
         let wanted = mask_of(k.pins);
         (self.standing >> (k.pin - 1)) & wanted == wanted
@@ -62,7 +65,7 @@ impl Board {
     {
         Board {
             count: self.count,
-            standing: self.standing - (mask_of(k.pins) << (k.pin - 1)),
+            standing: self.standing & !(mask_of(k.pins) << (k.pin - 1)),
         }
     }
 }

@@ -1,18 +1,9 @@
 // The row of pins of a board.
-ghost use Rattle.std.specs.Prelude.{◌≡◌, ◌<◌, ◌≤◌, [], ◌∷◌, ◌++◌, length, Decides, MatchOption};
+ghost use Rattle.std.specs.Prelude.{◌≡◌, ◌<◌, ◌≤◌, [], ◌∷◌, ◌++◌, ◌↔◌, length, IsTrue, MatchOption};
 ghost use Rattle.kayles.specs.Limits.{most_pins};
-ghost use Rattle.kayles.specs.Rows.{Stands, bit, row, upright};
+ghost use Rattle.kayles.specs.Rows.{Stands, row, upright};
 
 use crate::board::{Board, MOST_PINS, Pin};
-
-fn bit_of(pin: Pin) -> u32
-    ensures { result ≡ bit pin }
-{
-    match pin {
-        Pin::Standing => 1,
-        Pin::Down => 0,
-    }
-}
 
 impl Board {
     // The board of no pins.
@@ -27,14 +18,15 @@ impl Board {
 
     // The board with one pin more on its right, unless it has the most already.
     pub fn with(self, pin: Pin) -> Option<Board>
-        ensures { MatchOption result (length (row self) ≡ most_pins) (λ b. (length (row self) < most_pins) × (row b ≡ row self ++ pin ∷ [])) }
+        ensures { MatchOption result (length (row self) ≡ most_pins)
+            (λ b. (length (row self) < most_pins) × (row b ≡ row self ++ pin ∷ [])) }
     {
         if self.count >= MOST_PINS {
             return None;
         }
         Some(Board {
             count: self.count + 1,
-            standing: self.standing + (bit_of(pin) << self.count),
+            standing: self.standing | (pin as u32) << self.count,
         })
     }
 
@@ -55,7 +47,7 @@ impl Board {
 
     // Whether there is a pin of that number, counted from 1, and it stands.
     pub fn stands(self, pin: u8) -> bool
-        ensures { Decides result (Stands (row self) pin) }
+        ensures { IsTrue result ↔ Stands (row self) pin }
     {
         if pin == 0 || pin > self.count {
             return false;

@@ -9,7 +9,7 @@ use crate::board::{Board, MOST_PINS};
 use crate::position::Position;
 
 // The positions that have a side to move and so many runs of each length.
-#[derive(Clone, Copy)]
+#[derive(Clone, Copy, PartialEq, Eq)]
 pub struct RunSet {
     // How many runs there are of 1, 2, .. 32 pins, as the digits of one number in mixed radices, and below them the standing
     // pins in six bits. So the runs of two sets are compared as one word.

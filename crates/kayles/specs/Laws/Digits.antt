@@ -1,8 +1,8 @@
 -- Numbers written in mixed radices: a digit for the runs of each length.
-use Rattle.std.specs.Prelude.{◌≡◌, ℕ, zero, suc, ◌+◌, ◌*◌, ◌/◌, ◌%◌, ◌<◌, ◌≤◌, ◌⊎◌}
+use Rattle.std.specs.Prelude.{◌≡◌, ℕ, zero, suc, ◌+◌, ◌-◌, ◌*◌, ◌/◌, ◌%◌, ◌<◌, ◌≤◌}
 use Rattle.std.proofs.Math.Path.{refl, ap, ap₂}
-use Rattle.std.proofs.Common.{sym, ◌∙◌, subst, inl, inr, mod-eq_of_lt, mul_assoc, mul_comm, mul-le-mul_right, mul-one, mul-pos}
-use Rattle.std.proofs.Math.Nat.{add-mul, add-mul-div_left, add-mul-mod_self_left}
+use Rattle.std.proofs.Common.{sym, ◌∙◌, subst, inl, inr, mod-eq_of_lt, mul_assoc, mul-le-mul_right, mul-one, mul-pos}
+use Rattle.std.proofs.Math.Nat.{add-mul-div_left, add-mul-mod_self_left}
 use native.Mathlib.Omega.{arith}
 use Rattle.std.proofs.Math.Arith.{digits_div}
 use Rattle.std.proofs.lemmas.Bool.{cases_lt}
@@ -21,12 +21,12 @@ place_pos (suc n) = mul-pos (place_pos n) (omega arith)
 -- a lower place divides a higher one
 place_split : (j n : ℕ) → j ≤ n → (c : ℕ) × (place n ≡ place j * c)
 unfolding place
-place_split j zero h = (1, ap place (let e : 0 ≡ j = omega arith in e) ∙ sym (mul-one (place j)))
-place_split j (suc n) h = go (λ l. place_split j n l) (cases_lt j (suc n))
-  where
-    go : (j ≤ n → (c : ℕ) × (place n ≡ place j * c)) → (j < suc n) ⊎ (suc n ≤ j) → (c : ℕ) × (place (suc n) ≡ place j * c)
-    go ih (inl l) = let s = ih (omega arith) in (s.0 * radix (suc n), ap (λ k. k * radix (suc n)) s.1 ∙ mul_assoc (place j) s.0 (radix (suc n)))
-    go ih (inr l) = (1, ap place (let e : suc n ≡ j = omega arith in e) ∙ sym (mul-one (place j)))
+place_split j zero h = (1, grind arith)
+place_split j (suc n) h =
+    elim (cases_lt j (suc n)) [
+      | inl l ↦ let s = place_split j n (omega arith) in (s.0 * radix (suc n), rw s.1 (mul_assoc (place j) s.0 (radix (suc n))))
+      | inr l ↦ (1, ap place (let e : suc n ≡ j = omega arith in e) ∙ sym (mul-one (place j)))
+    ]
 
 -- each of them is a digit
 abbrev pub Small : (ℕ → ℕ) → Type 0
@@ -35,34 +35,28 @@ Small f = (x : ℕ) → 0 < x → f x < radix x
 pub digits_lt : (f : ℕ → ℕ) (n : ℕ) → Small f → digits f n < place n
 unfolding sum_to place
 digits_lt f zero s = omega arith
-digits_lt f (suc n) s =
-    let room = mul-le-mul_right {m = f (suc n) + 1} {n = radix (suc n)} (place n) (omega (arith, s (suc n) (omega arith))) in
-    omega (arith, digits_lt f n s, add-mul (f (suc n)) 1 (place n), room, mul_comm (place n) (radix (suc n)))
+digits_lt f (suc n) s = grind (arith, digits_lt f n s, mul-le-mul_right {m = f (suc n) + 1} {n = radix (suc n)} (place n) (omega (arith, s (suc n) (omega arith))))
 
 regroup : (f n a r c : ℕ) → n ≡ a * r * c → f * n ≡ a * (r * (c * f))
-regroup f n a r c e = mul_comm f n ∙ ap (λ k. k * f) e ∙ mul_assoc (a * r) c f ∙ mul_assoc a r (c * f)
+regroup f n a r c e = rw e (grind arith)
 
 -- the digit at each place
 pub digit_at : (f : ℕ → ℕ) (j n : ℕ) → Small f → j < n → digits f n / place j % radix (suc j) ≡ f (suc j)
 unfolding sum_to place
 digit_at f j zero s h = absurd (omega arith)
-digit_at f j (suc n) s h = go (digit_at f j n s) (cases_lt j n)
+digit_at f j (suc n) s h =
+    elim (cases_lt j n) [
+      | inl l ↦
+          let d = place_split (suc j) n (omega arith) in
+          ap (λ k. (digits f n + k) / place j % radix (suc j)) (regroup (f (suc n)) (place n) (place j) (radix (suc j)) d.0 d.1)
+          ∙ ap (λ k. k % radix (suc j)) (add-mul-div_left (digits f n) (radix (suc j) * (d.0 * f (suc n))) (place_pos j))
+          ∙ add-mul-mod_self_left (digits f n / place j) (radix (suc j)) (d.0 * f (suc n))
+          ∙ digit_at f j n s l
+      | inr l ↦ subst (λ k. digits f (suc n) / place k % radix (suc k) ≡ f (suc k)) (omega arith) highest
+    ]
   where
-    -- the highest
-    top : digits f (suc n) / place n % radix (suc n) ≡ f (suc n)
-    top =
-        ap (λ k. k / place n % radix (suc n)) (let e : digits f n + f (suc n) * place n ≡ f (suc n) * place n + digits f n = omega arith in e)
-        ∙ ap (λ k. k % radix (suc n)) (digits_div (f (suc n)) (digits_lt f n s))
-        ∙ mod-eq_of_lt (s (suc n) (omega arith))
-
-    go : (j < n → digits f n / place j % radix (suc j) ≡ f (suc j)) → (j < n) ⊎ (n ≤ j) → digits f (suc n) / place j % radix (suc j) ≡ f (suc j)
-    go ih (inr l) = subst (λ k. digits f (suc n) / place k % radix (suc k) ≡ f (suc k)) (let e : n ≡ j = omega arith in e) top
-    go ih (inl l) =
-        let d = place_split (suc j) n (omega arith) in
-        ap (λ k. (digits f n + k) / place j % radix (suc j)) (regroup (f (suc n)) (place n) (place j) (radix (suc j)) d.0 d.1)
-        ∙ ap (λ k. k % radix (suc j)) (add-mul-div_left (digits f n) (radix (suc j) * (d.0 * f (suc n))) (place_pos j))
-        ∙ add-mul-mod_self_left (digits f n / place j) (radix (suc j)) (d.0 * f (suc n))
-        ∙ ih l
+    highest : digits f (suc n) / place n % radix (suc n) ≡ f (suc n)
+    highest = grind (arith, digits_div (f (suc n)) (digits_lt f n s), mod-eq_of_lt (s (suc n) (omega arith)))
 
 -- ---- sums over the lengths, whatever each counts for
 
@@ -75,7 +69,7 @@ module _ (w : ℕ → ℕ) where
   pub sum_add : (f g : ℕ → ℕ) (n : ℕ) → sum_to w (λ x. f x + g x) n ≡ sum_to w f n + sum_to w g n
   unfolding sum_to
   sum_add f g zero = refl
-  sum_add f g (suc n) = omega (arith, sum_add f g n, add-mul (f (suc n)) (g (suc n)) (w n))
+  sum_add f g (suc n) = grind (arith, sum_add f g n)
 
   pub sum_zero : (n : ℕ) → sum_to w (λ x. 0) n ≡ 0
   unfolding sum_to
@@ -83,18 +77,12 @@ module _ (w : ℕ → ℕ) where
   sum_zero (suc n) = omega (arith, sum_zero n)
 
   -- a single run
-  sum_none : (l n : ℕ) → n ≤ l → sum_to w (λ x. one x (suc l)) n ≡ 0
+  sum_none : (l n : ℕ) → n < l → sum_to w (λ x. one x l) n ≡ 0
   unfolding sum_to
   sum_none l zero h = refl
-  sum_none l (suc n) h = omega (arith, sum_none l n (omega arith), ap (λ k. k * w n) (one_off (suc n) (suc l) (omega arith)))
+  sum_none l (suc n) h = grind (arith, sum_none l n, one_off (suc n) l)
 
-  pub sum_one : (l n : ℕ) → l < n → sum_to w (λ x. one x (suc l)) n ≡ w l
+  pub sum_one : (l n : ℕ) → 0 < l → l ≤ n → sum_to w (λ x. one x l) n ≡ w (l - 1)
   unfolding sum_to
-  sum_one l zero h = absurd (omega arith)
-  sum_one l (suc n) h = go (sum_one l n) (cases_lt l n)
-    where
-      go : (l < n → sum_to w (λ x. one x (suc l)) n ≡ w l) → (l < n) ⊎ (n ≤ l) → sum_to w (λ x. one x (suc l)) n + one (suc n) (suc l) * w n ≡ w l
-      go ih (inl k) = omega (arith, ih k, ap (λ k. k * w n) (one_off (suc n) (suc l) (omega arith)))
-      go ih (inr k) =
-          let e : n ≡ l = omega arith in
-          omega (arith, sum_none l n k, ap (λ m. m * w n) (ap (λ m. one (suc n) (suc m)) (sym e) ∙ one_self (suc n)), ap w e)
+  sum_one l zero a b = absurd (omega arith)
+  sum_one l (suc n) a b = grind (arith, sum_one l n, sum_none l n, one_off (suc n) l, one_self (suc n))

@@ -1,6 +1,6 @@
 -- The list of the moves on a row, by the pins that they take.
-use Rattle.std.specs.Prelude.{◌≡◌, ℕ, zero, suc, ◌+◌, ◌<◌, Bool, true, false, cond, T, List, [], ◌∷◌, length, slice_index_or, refl}
-use Rattle.std.proofs.Common.{ap, ◌∙◌, subst, arith}
+use Rattle.std.specs.Prelude.{◌≡◌, ℕ, zero, suc, ◌+◌, ◌<◌, Bool, true, false, cond, T, List, [], ◌∷◌, length, slice_index_or}
+use Rattle.std.proofs.Common.{ap, ◌∙◌, arith}
 use Rattle.kayles.specs.declared.board.Pin.{Pin}
 use Rattle.kayles.specs.declared.position.Knock.{Knock}
 use Rattle.kayles.specs.Play.{front, knocks_from, no_knock, offered, taking}
@@ -23,12 +23,12 @@ offered_each P i n ps ks h g = go (front n ps) h
     go true h (suc m) l = g m (omega arith)
     go false h m l = g m l
 
-offered_here : (i n : ℕ) (ps : List Pin) (ks : List Knock) → T (front n ps) → Has (offered i n ps ks) (taking i n)
+offered_here : (i n k : ℕ) (ps : List Pin) (ks : List Knock) → i ≡ k → T (front n ps) → Has (offered i n ps ks) (taking k n)
 unfolding offered
-offered_here i n ps ks t = go (front n ps) t
+offered_here i n k ps ks e t = go (front n ps) t
   where
-    go : (c : Bool) → T c → Has (cond c (taking i n ∷ ks) ks) (taking i n)
-    go true t = (0, omega arith, refl)
+    go : (c : Bool) → T c → Has (cond c (taking i n ∷ ks) ks) (taking k n)
+    go true t = (0, omega arith, ap (λ k. taking k n) e)
     go false t = absurd t
 
 offered_keeps : (i n : ℕ) (ps : List Pin) (ks : List Knock) (k : Knock) → Has ks k → Has (offered i n ps ks) k
@@ -43,21 +43,16 @@ pub takes : (i : ℕ) (ps : List Pin) (m : ℕ) → m < length (knocks_from i ps
 unfolding knocks_from up_after
 takes i [] m h = absurd (omega arith)
 takes i (p ∷ ps) m h =
-    offered_each (Takes i (p ∷ ps)) i 1 (p ∷ ps) (offered i 2 (p ∷ ps) (knocks_from (suc i) ps)) (λ t. (0, 0, omega arith, ap (λ k. taking k 1) (let e : i ≡ i + 0 = omega arith in e), t))
-    (offered_each (Takes i (p ∷ ps)) i 2 (p ∷ ps) (knocks_from (suc i) ps) (λ t. (0, 1, omega arith, ap (λ k. taking k 2) (let e : i ≡ i + 0 = omega arith in e), t))
-    (λ m h. let s = takes (suc i) ps m h in (suc s.0, s.1, s.2, s.3 ∙ ap (λ k. taking k (suc s.1)) (let e : suc i + s.0 ≡ i + suc s.0 = omega arith in e), s.4)))
+    offered_each (Takes i (p ∷ ps)) i 1 (p ∷ ps) _ (λ t. (0, 0, omega arith, ap (λ k. taking k 1) (omega arith), t))
+    (offered_each (Takes i (p ∷ ps)) i 2 (p ∷ ps) _ (λ t. (0, 1, omega arith, ap (λ k. taking k 2) (omega arith), t))
+    (λ m h. let s = takes (suc i) ps m h in (suc s.0, s.1, s.2, s.3 ∙ ap (λ k. taking k (suc s.1)) (omega arith), s.4)))
     m h
 
-pub taken : (i j c : ℕ) (ps : List Pin) → c < 2 → T (up_after j (suc c) ps) → Has (knocks_from i ps) (taking (i + j) (suc c))
+pub taken : (i j c k : ℕ) (ps : List Pin) → c < 2 → i + j ≡ k → T (up_after j (suc c) ps) → Has (knocks_from i ps) (taking k (suc c))
 unfolding knocks_from up_after front
-taken i zero c [] h t = absurd t
-taken i (suc j) c [] h t = absurd t
-taken i zero zero (p ∷ ps) h t =
-    subst (Has (knocks_from i (p ∷ ps))) (ap (λ k. taking k 1) (let e : i ≡ i + 0 = omega arith in e)) (offered_here i 1 (p ∷ ps) (offered i 2 (p ∷ ps) (knocks_from (suc i) ps)) t)
-taken i zero (suc zero) (p ∷ ps) h t =
-    subst (Has (knocks_from i (p ∷ ps))) (ap (λ k. taking k 2) (let e : i ≡ i + 0 = omega arith in e))
-    (offered_keeps i 1 (p ∷ ps) (offered i 2 (p ∷ ps) (knocks_from (suc i) ps)) (taking i 2) (offered_here i 2 (p ∷ ps) (knocks_from (suc i) ps) t))
-taken i zero (suc (suc c)) (p ∷ ps) h t = absurd (omega arith)
-taken i (suc j) c (p ∷ ps) h t =
-    subst (Has (knocks_from i (p ∷ ps))) (ap (λ k. taking k (suc c)) (let e : suc i + j ≡ i + suc j = omega arith in e))
-    (offered_keeps i 1 (p ∷ ps) (offered i 2 (p ∷ ps) (knocks_from (suc i) ps)) (taking (suc i + j) (suc c)) (offered_keeps i 2 (p ∷ ps) (knocks_from (suc i) ps) (taking (suc i + j) (suc c)) (taken (suc i) j c ps h t)))
+taken i zero c k [] h e t = absurd t
+taken i (suc j) c k [] h e t = absurd t
+taken i zero zero k (p ∷ ps) h e t = offered_here i 1 k (p ∷ ps) _ (omega arith) t
+taken i zero (suc zero) k (p ∷ ps) h e t = offered_keeps i 1 (p ∷ ps) _ _ (offered_here i 2 k (p ∷ ps) _ (omega arith) t)
+taken i zero (suc (suc c)) k (p ∷ ps) h e t = absurd (omega arith)
+taken i (suc j) c k (p ∷ ps) h e t = offered_keeps i 1 (p ∷ ps) _ _ (offered_keeps i 2 (p ∷ ps) _ _ (taken (suc i) j c k ps h (omega arith) t))

@@ -1,6 +1,7 @@
 -- Boards and their rows: each gives the other again.
-use Rattle.std.specs.Prelude.{◌≡◌, ℕ, zero, suc, ◌+◌, ◌*◌, ◌/◌, ◌%◌, ◌^◌, ◌<◌, ◌≤◌, List, [], ◌∷◌, length, refl}
-use Rattle.std.proofs.Common.{sym, ap, ap₂, ◌∙◌, pow-suc, arith}
+use Rattle.std.specs.Prelude.{◌≡◌, ℕ, zero, suc, ◌/◌, ◌^◌, ◌<◌, ◌≤◌, List, [], ◌∷◌, length, refl}
+use Rattle.std.proofs.Common.{sym, ap, ◌∙◌, pow-suc, arith}
+use Rattle.std.proofs.lemmas.Bool.Decides.{nat_tests}
 use mathlib.Core.HLevel.{is_prop→PathP}
 use Rattle.std.proofs.Math.Bridge.{le_prop}
 use Rattle.kayles.specs.declared.board.Board.{Board}
@@ -9,7 +10,7 @@ use Rattle.kayles.specs.declared.board.Pin.TheVariants.{Standing, Down}
 use Rattle.kayles.specs.declared.position.Position.{Position}
 use Rattle.kayles.specs.Boards.{board_of, length-pins, mask}
 use Rattle.kayles.specs.Limits.{most_pins}
-use Rattle.kayles.specs.Rows.{bit, pin_of, pins, row}
+use Rattle.kayles.specs.Rows.{pins, row}
 
 -- boards are the same where their two words are
 pub same_board : (a b : Board) → a.count ≡ b.count → a.standing ≡ b.standing → a ≡ b
@@ -22,20 +23,13 @@ same_position p q eb ec = λ i. record { board = eb i; counting = ec i }
 pub pins_mask : (ps : List Pin) → pins (length ps) (mask ps) ≡ ps
 unfolding pins mask
 pins_mask [] = refl
-pins_mask (Standing ∷ ps) =
-    ap₂ (λ b m. pin_of b ∷ pins (length ps) m) (let e : (1 + 2 * mask ps) % 2 ≡ 1 = omega arith in e) (let e : (1 + 2 * mask ps) / 2 ≡ mask ps = omega arith in e) ∙ ap (λ qs. Standing ∷ qs) (pins_mask ps)
-pins_mask (Down ∷ ps) =
-    ap₂ (λ b m. pin_of b ∷ pins (length ps) m) (let e : (0 + 2 * mask ps) % 2 ≡ 0 = omega arith in e) (let e : (0 + 2 * mask ps) / 2 ≡ mask ps = omega arith in e) ∙ ap (λ qs. Down ∷ qs) (pins_mask ps)
-
-bit_back : (b : ℕ) → b < 2 → bit (pin_of b) ≡ b
-bit_back zero h = refl
-bit_back (suc zero) h = refl
-bit_back (suc (suc b)) h = absurd (omega arith)
+pins_mask (Standing ∷ ps) = grind (arith, nat_tests, pins_mask ps)
+pins_mask (Down ∷ ps) = grind (arith, nat_tests, pins_mask ps)
 
 pub mask_pins : (n m : ℕ) → m < 2 ^ n → mask (pins n m) ≡ m
 unfolding pins mask
 mask_pins zero m h = omega arith
-mask_pins (suc n) m h = omega (arith, bit_back (m % 2) (omega arith), mask_pins n (m / 2) (omega (arith, pow-suc 2 n)))
+mask_pins (suc n) m h = grind (arith, nat_tests, mask_pins n (m / 2), pow-suc 2 n)
 
 -- a board whose row is ps is the board of ps
 pub board_is : (b : Board) (ps : List Pin) (h : length ps ≤ most_pins) → row b ≡ ps → b ≡ board_of ps h

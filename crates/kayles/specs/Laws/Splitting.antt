@@ -1,7 +1,8 @@
 -- A move splits a run in two, and rows with as many runs of each length can be split alike.
-use Rattle.std.specs.Prelude.{◌≡◌, ℕ, zero, suc, ◌+◌, ◌-◌, ◌*◌, ◌<◌, ◌≤◌, Bool, true, false, cond, T, ◌≢◌, ◌⊎◌, List, [], ◌∷◌, length, ◌==◌, refl}
-use Rattle.std.proofs.Common.{sym, ap, ◌∙◌, subst, inl, inr, add-mul, arith, eqb→eq}
-use Rattle.std.proofs.Math.Dec.{eqb_refl}
+use Rattle.std.specs.Prelude.{◌≡◌, ℕ, zero, suc, ◌+◌, ◌-◌, ◌*◌, ◌<◌, ◌≤◌, Bool, false, cond, T, ◌≢◌, ◌⊎◌, List, [], ◌∷◌, length, ◌==◌}
+use Rattle.std.proofs.Common.{inl, inr, add-mul, arith}
+use Rattle.std.proofs.lemmas.Bool.{cases_eq}
+use Rattle.std.proofs.lemmas.Bool.Decides.{nat_tests}
 use Rattle.kayles.specs.declared.board.Pin.{Pin}
 use Rattle.kayles.specs.declared.board.Pin.TheVariants.{Standing, Down}
 use Rattle.kayles.specs.Play.{fallen, fallen_after, front}
@@ -35,26 +36,18 @@ Same ps qs = (x : ℕ) → 0 < x → counted x 0 ps ≡ counted x 0 qs
 
 pub one_self : (x : ℕ) → one x x ≡ 1
 unfolding one
-one_self x = go (x == x) (eqb_refl x)
-  where
-    go : (c : Bool) → T c → ◌≡◌ {A = ℕ} (cond c 1 0) 1
-    go true t = refl
-    go false t = absurd t
+one_self x = grind (arith, nat_tests)
 
 pub one_off : (x y : ℕ) → x ≢ y → one x y ≡ 0
 unfolding one
-one_off x y h = go (y == x) (λ t. h (sym (eqb→eq y x t)))
-  where
-    go : (c : Bool) → (T c → ⊥) → ◌≡◌ {A = ℕ} (cond c 1 0) 0
-    go true t = absurd (t tt)
-    go false t = refl
+one_off x y h = grind (arith, nat_tests)
 
 -- the first run is longer by r where r pins stand before it
 lead_run : (x r : ℕ) (ps : List Pin) → counted x r ps + one x (lead ps) ≡ counted x 0 ps + one x (r + lead ps)
 unfolding counted lead
-lead_run x r [] = omega (arith, ap (one x) (let e : r ≡ r + 0 = omega arith in e))
-lead_run x r (Standing ∷ ps) = omega (arith, lead_run x (suc r) ps, lead_run x 1 ps, ap (one x) (let e : suc r + lead ps ≡ r + suc (lead ps) = omega arith in e), ap (one x) (let e : 1 + lead ps ≡ suc (lead ps) = omega arith in e))
-lead_run x r (Down ∷ ps) = omega (arith, ap (one x) (let e : r ≡ r + 0 = omega arith in e))
+lead_run x r [] = grind arith
+lead_run x r (Standing ∷ ps) = grind (arith, lead_run x (suc r) ps, lead_run x 1 ps)
+lead_run x r (Down ∷ ps) = grind arith
 
 front_lead : (n : ℕ) (ps : List Pin) → T (front n ps) → n ≤ lead ps
 unfolding front lead
@@ -75,17 +68,8 @@ fallen_runs : (n x r b : ℕ) (ps : List Pin) → 0 < x → lead ps ≡ suc n + 
 unfolding counted lead fallen
 fallen_runs n x r b [] h e = absurd (omega arith)
 fallen_runs n x r b (Down ∷ ps) h e = absurd (omega arith)
-fallen_runs zero x r b (Standing ∷ ps) h e =
-    omega (arith, lead_run x (suc r) ps, ap (one x) (let e : suc r + lead ps ≡ r + 1 + b = omega arith in e), ap (one x) (let e : lead ps ≡ b = omega arith in e))
-fallen_runs (suc n) x r b (Standing ∷ ps) h e =
-    omega (
-      arith,
-      fallen_runs n x 0 b ps h (omega arith),
-      lead_run x (suc r) ps,
-      one_off x 0 (omega arith),
-      ap (one x) (let e : suc r + lead ps ≡ r + suc (suc n) + b = omega arith in e),
-      ap (one x) (let e : lead ps ≡ 0 + suc n + b = omega arith in e),
-    )
+fallen_runs zero x r b (Standing ∷ ps) h e = grind (arith, lead_run x (suc r) ps)
+fallen_runs (suc n) x r b (Standing ∷ ps) h e = grind (arith, fallen_runs n x 0 b ps h, lead_run x (suc r) ps, one_off x 0)
 
 -- ps becomes qs by taking n pins out of a run, which leaves a and b of it
 abbrev Splits : ℕ → ℕ → ℕ → ℕ → List Pin → List Pin → Type 0
@@ -99,35 +83,26 @@ split (suc i) n r [] t = absurd t
 split (suc i) n r (Standing ∷ ps) t = split i n (suc r) ps t
 split (suc i) n r (Down ∷ ps) t = let s = split i n 0 ps t in (s.0, s.1, λ x h. omega (arith, s.2 x h))
 
-either : (m n : ℕ) → (m ≡ n) ⊎ (m ≢ n)
-either m n = go (m == n) refl
-  where
-    go : (c : Bool) → (m == n) ≡ c → (m ≡ n) ⊎ (m ≢ n)
-    go true e = inl (eqb→eq m n (subst T (sym e) tt))
-    go false e = inr (λ h. subst T e (subst (λ k. T (m == k)) h (eqb_refl m)))
-
-here_or_on : (r a l n : ℕ) → (r ≤ a) ⊎ (l ≢ r + suc n) → ((r ≡ a) × (l ≡ r + suc n)) ⊎ ((suc r ≤ a) ⊎ (l ≢ suc r + n))
-here_or_on r a l n (inr g) = inr (inr (omega arith))
-here_or_on r a l n (inl g) = go (either r a) (either l (r + suc n))
-  where
-    go : (r ≡ a) ⊎ (r ≢ a) → (l ≡ r + suc n) ⊎ (l ≢ r + suc n) → ((r ≡ a) × (l ≡ r + suc n)) ⊎ ((suc r ≤ a) ⊎ (l ≢ suc r + n))
-    go (inl e) (inl f) = inl (e, f)
-    go (inl e) (inr f) = inr (inr (omega arith))
-    go (inr e) f = inr (inl (omega arith))
+here_or_on : (r a l n : ℕ) → (l ≡ r + suc n → r ≤ a) → ((r ≡ a) × (l ≡ r + suc n)) ⊎ (l ≡ suc r + n → suc r ≤ a)
+here_or_on r a l n d =
+    elim (cases_eq r a) [
+      | inl e ↦ elim (cases_eq l (r + suc n)) [ inl f ↦ inl (e, f) | inr f ↦ inr (λ g. omega arith) ]
+      | inr e ↦ inr (λ g. omega arith)
+    ]
 
 -- the other way round: where there is a run of that length, some move splits one so
-find : (n r a b : ℕ) (ps : List Pin) → 0 < counted (a + suc n + b) r ps → (r ≤ a) ⊎ (a + suc n + b ≢ r + lead ps) → (i : ℕ) × T (up_after i (suc n) ps) × Splits r a (suc n) b ps (fallen_after i (suc n) ps)
+find : (n r a b : ℕ) (ps : List Pin) → 0 < counted (a + suc n + b) r ps → (a + suc n + b ≡ r + lead ps → r ≤ a) → (i : ℕ) × T (up_after i (suc n) ps) × Splits r a (suc n) b ps (fallen_after i (suc n) ps)
 unfolding counted lead up_after fallen_after
-find n r a b [] h d = absurd (omega (arith, one_off (a + suc n + b) r (elim d [ inl g ↦ omega arith | inr g ↦ omega arith ])))
+find n r a b [] h d = absurd (omega (arith, one_off (a + suc n + b) r (λ e. omega (arith, d (omega arith)))))
 find n r a b (Down ∷ ps) h d =
-    let f = find n 0 a b ps (omega (arith, one_off (a + suc n + b) r (elim d [ inl g ↦ omega arith | inr g ↦ omega arith ]))) (inl (omega arith)) in
+    let f = find n 0 a b ps (omega (arith, one_off (a + suc n + b) r (λ e. omega (arith, d (omega arith))))) (λ e. omega arith) in
     (suc f.0, f.1, λ x g. omega (arith, f.2 x g))
 find n r a b (Standing ∷ ps) h d =
     elim (here_or_on r a (a + suc n + b) (lead ps) d) [
       | inl e ↦ (
         0,
         lead_front (suc n) (Standing ∷ ps) (omega (arith, e.0, e.1)),
-        λ x g. omega (arith, fallen_runs n x r b (Standing ∷ ps) g (omega (arith, e.0, e.1)), ap (one x) e.0, ap (λ k. one x (k + suc n + b)) e.0),
+        λ x g. grind (arith, fallen_runs n x r b (Standing ∷ ps) g (omega (arith, e.0, e.1)), e.0),
       )
       | inr e ↦ let f = find n (suc r) a b ps h e in (suc f.0, f.1, f.2)
     ]
@@ -137,7 +112,7 @@ pub matched : (i n : ℕ) (ps qs : List Pin) → Same ps qs → T (up_after i (s
 matched i n ps qs s t =
     let d = split i n 0 ps t in
     let l = d.0 + suc n + d.1 in
-    let f = find n 0 d.0 d.1 qs (omega (arith, s l (omega arith), d.2 l (omega arith), one_self l, one_off l d.0 (omega arith), one_off l d.1 (omega arith))) (inl (omega arith)) in
+    let f = find n 0 d.0 d.1 qs (omega (arith, s l (omega arith), d.2 l (omega arith), one_self l, one_off l d.0 (omega arith), one_off l d.1 (omega arith))) (λ e. omega arith) in
     (f.0, f.1, λ x h. omega (arith, s x h, d.2 x h, f.2 x h))
 
 -- ---- numbers
@@ -172,11 +147,8 @@ counted_long x r (Down ∷ ps) h = omega (arith, one_off x r (omega arith), coun
 
 -- runs of x pins take x + 1 pins each, but for the last
 one_room : (x r : ℕ) → one x r * (x + 1) ≤ r + 1
-one_room x r = go (either x r)
-  where
-    go : (x ≡ r) ⊎ (x ≢ r) → one x r * (x + 1) ≤ r + 1
-    go (inl e) = omega (arith, ap (λ k. k * (x + 1)) (ap (one x) (sym e) ∙ one_self x))
-    go (inr e) = omega (arith, ap (λ k. k * (x + 1)) (one_off x r e))
+unfolding one
+one_room x r = grind (arith, nat_tests)
 
 pub counted_room : (x r : ℕ) (ps : List Pin) → counted x r ps * (x + 1) ≤ r + length ps + 1
 unfolding counted

@@ -1,5 +1,5 @@
 -- The word of a row's runs, and what can be read off it.
-use Rattle.std.specs.Prelude.{◌≡◌, ℕ, zero, suc, ◌+◌, ◌-◌, ◌*◌, ◌/◌, ◌%◌, ◌<◌, ◌≤◌, ◌⊎◌, List, [], ◌∷◌, length, refl}
+use Rattle.std.specs.Prelude.{◌≡◌, ℕ, zero, suc, ◌+◌, ◌-◌, ◌*◌, ◌/◌, ◌%◌, ◌<◌, ◌≤◌, List, [], ◌∷◌, length, refl}
 use Rattle.std.proofs.Common.{sym, ap, ◌∙◌, inl, inr, le-div_iff_mul-le, arith}
 use Rattle.std.proofs.Math.Nat.{div-div-eq-div-mul}
 use Rattle.std.proofs.lemmas.Bool.{cases_lt}
@@ -32,18 +32,15 @@ lens_from n i k (Down ∷ ps) h = lens_closed n i k (runs_from (suc i) 0 ps) (om
 -- a run more counts once more for its length
 single : (w : ℕ → ℕ) (n : ℕ) (r : Run) (rs : List Run) → 0 < r.len → r.len ≤ n → sum_to w (λ x. how_many x (r ∷ rs)) n ≡ w (r.len - 1) + sum_to w (λ x. how_many x rs) n
 unfolding how_many one
-single w n r rs a b =
-    sum_add w (λ x. one x r.len) (λ x. how_many x rs) n
-    ∙ ap (λ k. k + sum_to w (λ x. how_many x rs) n)
-    (ap (λ l. sum_to w (λ x. one x l) n) (let e : r.len ≡ suc (r.len - 1) = omega arith in e) ∙ sum_one w (r.len - 1) n (omega arith))
+single w n r rs a b = sum_add w (λ x. one x r.len) (λ x. how_many x rs) n ∙ ap (λ k. k + sum_to w (λ x. how_many x rs) n) (sum_one w r.len n a b)
 
 no_runs : (w : ℕ → ℕ) (n : ℕ) → sum_to w (λ x. how_many x []) n ≡ 0
 unfolding how_many
 no_runs w n = sum_zero w n
 
-unit_is : (x : ℕ) → 0 < x → unit x ≡ x + room * place (x - 1)
+pub unit_is : (x : ℕ) → 0 < x → unit x ≡ x + room * place (x - 1)
 unit_is zero h = absurd (omega arith)
-unit_is (suc n) h = ap (λ k. suc n + room * place k) (let e : n ≡ suc n - 1 = omega arith in e)
+unit_is (suc n) h = grind arith
 
 word_split : (n : ℕ) (rs : List Run) → Lens n rs → word_of rs ≡ together rs + room * digits (λ x. how_many x rs) n
 unfolding word_of together
@@ -87,10 +84,7 @@ word_pins ps h = omega (arith, word_is ps h, pins_few ps h)
 
 -- and the number of runs of each length
 pub word_runs : (ps : List Pin) → length ps ≤ most_pins → (j : ℕ) → j < most_pins → word ps / (room * place j) % radix (suc j) ≡ counted (suc j) 0 ps
-word_runs ps h j l =
-    ap (λ k. k % radix (suc j)) (sym (div-div-eq-div-mul (word ps) room (place j)))
-    ∙ ap (λ k. k / place j % radix (suc j)) (let e : word ps / room ≡ digits (λ x. counted x 0 ps) most_pins = omega (arith, word_is ps h, pins_few ps h) in e)
-    ∙ digit_at (λ x. counted x 0 ps) j most_pins (small ps h) l
+word_runs ps h j l = grind (arith, div-div-eq-div-mul (word ps) room (place j), word_is ps h, pins_few ps h, digit_at (λ x. counted x 0 ps) j most_pins (small ps h) l)
 
 place_top : place most_pins ≡ 3929688716083200
 unfolding place
@@ -103,11 +97,11 @@ word_low ps h = omega (arith, word_is ps h, pins_few ps h, digits_lt (λ x. coun
 -- rows with one word have as many runs of each length, and the other way round
 pub same_word : (ps qs : List Pin) → length ps ≤ most_pins → length qs ≤ most_pins → word ps ≡ word qs → Same ps qs
 same_word ps qs a b e zero h = absurd (omega arith)
-same_word ps qs a b e (suc j) h = go (cases_lt j most_pins)
-  where
-    go : (j < most_pins) ⊎ (most_pins ≤ j) → counted (suc j) 0 ps ≡ counted (suc j) 0 qs
-    go (inl l) = sym (word_runs ps a j l) ∙ ap (λ w. w / (room * place j) % radix (suc j)) e ∙ word_runs qs b j l
-    go (inr l) = counted_long (suc j) 0 ps (omega arith) ∙ sym (counted_long (suc j) 0 qs (omega arith))
+same_word ps qs a b e (suc j) h =
+    elim (cases_lt j most_pins) [
+      | inl l ↦ sym (word_runs ps a j l) ∙ ap (λ w. w / (room * place j) % radix (suc j)) e ∙ word_runs qs b j l
+      | inr l ↦ counted_long (suc j) 0 ps (omega arith) ∙ sym (counted_long (suc j) 0 qs (omega arith))
+    ]
 
 pub word_same : (ps qs : List Pin) → length ps ≤ most_pins → length qs ≤ most_pins → Same ps qs → word ps ≡ word qs
 word_same ps qs a b s =
