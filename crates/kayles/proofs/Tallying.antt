@@ -1,15 +1,20 @@
 -- The list of the runs of a row has all its runs.
-use Rattle.std.specs.Prelude.{◌≡◌, ℕ, zero, suc, ◌+◌, ◌-◌, ◌≤◌, List, [], ◌∷◌, ◌++◌, length, get_or, Some, None, slice_index_or, refl}
-use Rattle.std.proofs.Common.{sym, ap, ◌∙◌, subst, subst₂, append_assoc, append-nil, inl, add-one, arith}
+use Rattle.std.specs.Prelude.{◌≡◌, ℕ, zero, suc, ◌+◌, ◌-◌, ◌<◌, ◌≤◌, ◌⊎◌, Option, MatchOption, List, [], ◌∷◌, ◌++◌, length, get_or, Some, None, slice_index_or, refl}
+use Rattle.std.specs.List.{AllWithin, HoldsAt}
+use Rattle.std.proofs.lemmas.Bool.{cases_lt}
+use Rattle.std.proofs.Common.{inr, sym, ap, ◌∙◌, subst, subst₂, append_assoc, append-nil, inl, add-one, arith}
+use Rattle.kayles.specs.declared.board.Board.{Board}
 use Rattle.kayles.specs.declared.board.Pin.{Pin}
 use Rattle.kayles.specs.declared.board.Pin.TheVariants.{Standing, Down}
 use Rattle.kayles.specs.declared.runs.Run.{Run}
-use Rattle.kayles.specs.Rows.{Stands}
-use Rattle.kayles.specs.Runs.{FirstRun, RunsOf}
+use Rattle.kayles.specs.Rows.{Stands, row}
+use Rattle.kayles.specs.Boards.{row_few}
+use Rattle.kayles.specs.Limits.{most_pins}
+use Rattle.kayles.specs.Runs.{FirstRun, IsRun, NoRun, RunsOf, no_run}
 use Rattle.kayles.specs.Tallies.{all_runs, closed, runs_from}
 use Rattle.kayles.proofs.Listing.{Listed, listed_all, listed_more, listed_none}
 use Rattle.kayles.proofs.Masks.{down_up}
-use Rattle.kayles.proofs.Stretches.{Walked, found_run, last_run, run_fits, walked_down, walked_none, walked_up}
+use Rattle.kayles.proofs.Stretches.{Walked, found_run, last_run, no_pin_0, run_fits, walked_down, walked_none, walked_up}
 
 -- rest is what follows the first i pins of ps
 pub record Follows (ps rest : List Pin) (i : ℕ) : Type 0 where
@@ -53,3 +58,30 @@ listing ps (Down ∷ rest) i (suc n) from rs f l w h =
 pub runs_listed : (ps : List Pin) → RunsOf ps (all_runs ps)
 unfolding all_runs
 runs_listed ps = listing ps ps 0 0 1 [] (record { long = omega arith; at = λ j. ap (λ k. get_or ps k Down) (let e : 0 + j ≡ j = omega arith in e) }) (listed_none ps) (walked_none ps 1) (omega arith)
+
+-- the first of the listed runs that begins at pin `from` or later
+pub next_listed : (ps : List Pin) (rs : List Run) (from : ℕ) → RunsOf ps rs → (o : Option Run)
+    → MatchOption o (AllWithin (λ r. r.first < from) rs 0 (length rs)) (λ q. (from ≤ q.first) × (i : ℕ) × (i < length rs) × HoldsAt (λ r. r ≡ q) rs i × AllWithin (λ r. r.first < from) rs 0 i)
+    → MatchOption o (NoRun ps from) (FirstRun ps from)
+next_listed ps rs from l None h = λ r t. let p = l.all r t in subst (λ x. x.first < from) p.2 (h p.0 no_run (omega arith) p.1)
+next_listed ps rs from l (Some q) (late, i, low, here, before) = record {
+  is_run = subst (IsRun ps) (here no_run) (l.each i low);
+  late = late;
+  earliest = λ r t a. let p = l.all r t in earliest r a p.0 p.1 p.2 (cases_lt p.0 i) (cases_lt i p.0);
+}
+  where
+    earliest : (r : Run) → from ≤ r.first → (k : ℕ) → k < length rs → slice_index_or rs k no_run ≡ r → (k < i) ⊎ (i ≤ k) → (i < k) ⊎ (k ≤ i) → q.first ≤ r.first
+    earliest r a k b e (inl c) d = absurd (omega (arith, before k no_run (omega arith) c, ap (λ x. x.first) e))
+    earliest r a k b e (inr c) (inl d) = omega (arith, l.order i k d b, ap (λ x. x.first) e, ap (λ x. x.first) (here no_run))
+    earliest r a k b e (inr c) (inr d) = omega (arith, ap (λ x. x.first) e, ap (λ x. x.first) (here no_run), ap (λ j. (get_or rs j no_run).first) (let f : i ≡ k = omega arith in f))
+
+-- a run of a board is no longer than the board
+pub first_fits : (b : Board) (q : Run) (rs : List Run) → all_runs (row b) ≡ q ∷ rs → q.len ≤ most_pins
+first_fits b q rs e = go q.first refl
+  where
+    run : IsRun (row b) q
+    run = (subst (RunsOf (row b)) e (runs_listed (row b))).each 0 (omega arith)
+
+    go : (f : ℕ) → q.first ≡ f → q.len ≤ most_pins
+    go zero z = absurd (no_pin_0 (row b) (run.stand 0 (omega arith) (omega (arith, run.some))))
+    go (suc f) z = omega (arith, run_fits (row b) q run, row_few b)
