@@ -1,15 +1,16 @@
 -- A turn over the pins of a mask: it passes over pins that are down, and then over one run.
 use Rattle.std.specs.Prelude.{◌≡◌, ℕ, zero, suc, ◌+◌, ◌-◌, ◌*◌, ◌/◌, ◌%◌, ◌^◌, ◌<◌, ◌≤◌, ◌⊎◌, List, [], ◌∷◌, ◌++◌, replicate, refl}
-use Rattle.std.proofs.Common.{sym, ap, ap₂, ◌∙◌, subst, inl, inr, arith, append-nil, pow_mono, pow_pos, shr-shr}
-use Rattle.std.proofs.Math.Nat.{div-mul-le_self, mul-div_cancel}
-use Rattle.std.proofs.lemmas.Nat.{shr_le}
+use Rattle.std.proofs.Common.{sym, ap, ap₂, ◌∙◌, subst, inl, inr, arith, pow_mono, pow_pos, shr-shr}
+use Rattle.std.proofs.Math.Nat.{div-mul-le_self}
+use Rattle.std.proofs.lemmas.Nat.{div-mul-add, shr_le}
 use Rattle.std.specs.Int.{bit_at, trailing_ones, trailing_zeros, w64}
 use Rattle.std.proofs.lemmas.Bool.{cases_lt}
 use Rattle.std.proofs.lemmas.Nat.Bits.{bit_at_lowest, bit_at-suc, bit_at-trailing_ones, bit_at-trailing_zeros, bit_at_above, bit_at-zero, bit_at_cat_low}
+use Rattle.kayles.specs.declared.board.Board.{Board}
 use Rattle.kayles.specs.declared.board.Pin.{Pin}
 use Rattle.kayles.specs.declared.board.Pin.TheVariants.{Standing, Down}
 use Rattle.kayles.specs.declared.runs.Run.{Run}
-use Rattle.kayles.specs.Rows.{pin_of, pins}
+use Rattle.kayles.specs.Rows.{pin_of, pins, row}
 use Rattle.kayles.specs.Tallies.{all_runs, closed, runs_from}
 
 -- the first n pins of a mask, and then the others
@@ -51,83 +52,86 @@ unfolding closed
 closed_some i zero rs h = absurd (omega arith)
 closed_some i (suc n) rs h = refl
 
--- what the iterator takes of n pins: z that are down, and the u after them, which stand
-module _ (n m u : ℕ) (some : m ≡ 0 → ⊥) (few : n ≤ 32) (fits : m < 2 ^ n) (long : u ≡ trailing_ones w64 (m / 2 ^ trailing_zeros w64 m)) where
+-- what a turn takes off a board: of its pins z are down, and the u after them stand
+module _ (b : Board) (u : ℕ) (some : b.standing ≡ 0 → ⊥) (long : u ≡ trailing_ones w64 (b.standing / 2 ^ trailing_zeros w64 b.standing)) where
   abbrev z : ℕ
-  z = trailing_zeros w64 m
+  z = trailing_zeros w64 b.standing
 
-  low : m < 2 ^ 32
-  low = omega (arith, pow_mono {i = n} {j = 32} few)
+  abbrev up : ℕ
+  up = b.standing / 2 ^ z
 
-  downs : (z < 64) × (bit_at m z ≡ 1) × ((i : ℕ) → i < z → bit_at m i ≡ 0)
-  downs = bit_at-trailing_zeros w64 m (omega arith) (omega (arith, low))
+  low : b.standing < 2 ^ 32
+  low = omega (arith, b.within, pow_mono {i = b.count} {j = 32} b.few)
 
-  ups : (u < 64) × (bit_at (m / 2 ^ z) u ≡ 0) × ((i : ℕ) → i < u → bit_at (m / 2 ^ z) i ≡ 1)
-  ups = subst (λ v. (v < 64) × (bit_at (m / 2 ^ z) v ≡ 0) × ((i : ℕ) → i < v → bit_at (m / 2 ^ z) i ≡ 1)) (sym long) (bit_at-trailing_ones w64 (m / 2 ^ z) (omega (arith, low, shr_le m z)))
+  downs : (z < 64) × (bit_at b.standing z ≡ 1) × ((i : ℕ) → i < z → bit_at b.standing i ≡ 0)
+  downs = bit_at-trailing_zeros w64 b.standing (omega arith) (omega (arith, low))
 
-  -- the bits of the run and after it
-  later : (i : ℕ) → bit_at (m / 2 ^ z) i ≡ bit_at m (z + i)
-  later i = ap (λ k. k % 2) (shr-shr m z i)
+  ups : (u < 64) × (bit_at up u ≡ 0) × ((i : ℕ) → i < u → bit_at up i ≡ 1)
+  ups = subst (λ v. (v < 64) × (bit_at up v ≡ 0) × ((i : ℕ) → i < v → bit_at up i ≡ 1)) (sym long) (bit_at-trailing_ones w64 up (omega (arith, low, shr_le b.standing z)))
 
-  pub run_some : 0 < u
+  up_at : (i : ℕ) → bit_at up i ≡ bit_at b.standing (z + i)
+  up_at i = ap (λ k. k % 2) (shr-shr b.standing z i)
+
+  run_some : 0 < u
   run_some = go (cases_lt 0 u)
     where
       go : (0 < u) ⊎ (u ≤ 0) → 0 < u
       go (inl h) = h
-      go (inr h) = absurd (let e : bit_at m z ≡ 0 = ap (bit_at m) (let f : z ≡ z + u = omega arith in f) ∙ sym (later u) ∙ ups.1 in omega (arith, downs.1))
+      go (inr h) = absurd (let e : bit_at b.standing z ≡ 0 = ap (bit_at b.standing) (let f : z ≡ z + u = omega arith in f) ∙ sym (up_at u) ∙ ups.1 in omega (arith, downs.1))
 
-  run_within : z + u ≤ n
-  run_within = go (cases_lt n (z + u)) (cases_lt z n)
+  run_within : z + u ≤ b.count
+  run_within = go (cases_lt b.count (z + u)) (cases_lt z b.count)
     where
-      go : (n < z + u) ⊎ (z + u ≤ n) → (z < n) ⊎ (n ≤ z) → z + u ≤ n
+      go : (b.count < z + u) ⊎ (z + u ≤ b.count) → (z < b.count) ⊎ (b.count ≤ z) → z + u ≤ b.count
       go (inr h) d = h
-      go (inl h) (inr l) = absurd (omega (arith, downs.1, bit_at_above m n z fits l))
+      go (inl h) (inr l) = absurd (omega (arith, downs.1, bit_at_above b.standing b.count z b.within l))
       go (inl h) (inl l) =
-          let e : bit_at m (z + (n - z)) ≡ 1 = sym (later (n - z)) ∙ ups.2 (n - z) (omega arith) in
-          absurd (omega (arith, bit_at_above m n (z + (n - z)) fits (omega arith)))
+          let i = b.count - z in
+          absurd (omega (arith, ups.2 i (omega arith), up_at i, bit_at_above b.standing b.count (z + i) b.within (omega arith)))
 
   pub run_short : z + u < 64
-  run_short = omega (arith, run_within)
+  run_short = omega (arith, run_within, b.few)
 
   abbrev rest : ℕ
-  rest = m / 2 ^ (z + u)
+  rest = b.standing / 2 ^ (z + u)
 
   abbrev behind : ℕ
-  behind = n - (z + u)
+  behind = b.count - (z + u)
 
   -- the pins down, the run, and what is behind it
-  three : pins n m ≡ replicate z Down ++ (replicate u Standing ++ pins behind rest)
+  three : row b ≡ replicate z Down ++ (replicate u Standing ++ pins behind rest)
   three =
-      ap (λ k. pins k m) (let e : n ≡ z + (u + behind) = omega (arith, run_within) in e)
-      ∙ pins_append z (u + behind) m
-      ∙ ap₂ ◌++◌ (pins_same 0 z m downs.2) (pins_append u behind (m / 2 ^ z) ∙ ap₂ ◌++◌ (pins_same 1 u (m / 2 ^ z) ups.2) (ap (pins behind) (shr-shr m z u)))
+      ap (λ k. pins k b.standing) (let e : b.count ≡ z + (u + behind) = omega (arith, run_within) in e)
+      ∙ pins_append z (u + behind) b.standing
+      ∙ ap₂ ◌++◌ (pins_same 0 z b.standing downs.2) (pins_append u behind up ∙ ap₂ ◌++◌ (pins_same 1 u up ups.2) (ap (pins behind) (shr-shr b.standing z u)))
 
   -- and with the run taken off
-  cleared : rest * 2 ^ (z + u) % 18446744073709551616 ≡ rest * 2 ^ (z + u)
-  cleared = omega (arith, low, div-mul-le_self m (2 ^ (z + u)))
+  abbrev left : ℕ
+  left = rest * 2 ^ (z + u) % 18446744073709551616
 
-  taken : pins n (rest * 2 ^ (z + u)) ≡ replicate (z + u) Down ++ pins behind rest
-  taken =
-      ap (λ k. pins k (rest * 2 ^ (z + u))) (let e : n ≡ z + u + behind = omega (arith, run_within) in e)
-      ∙ pins_append (z + u) behind (rest * 2 ^ (z + u))
-      ∙ ap₂ ◌++◌ (pins_same 0 (z + u) (rest * 2 ^ (z + u)) (λ i l. none i l)) (ap (pins behind) (mul-div_cancel rest {n = 2 ^ (z + u)} (pow_pos (z + u))))
-    where
-      none : (i : ℕ) → i < z + u → bit_at (rest * 2 ^ (z + u)) i ≡ 0
-      none i l = ap (λ k. bit_at k i) (let e : rest * 2 ^ (z + u) ≡ rest * 2 ^ (z + u) + 0 = omega arith in e) ∙ bit_at_cat_low rest (z + u) 0 i l ∙ bit_at-zero i
+  two : pins b.count left ≡ replicate (z + u) Down ++ pins behind rest
+  two =
+      ap₂ pins (let e : b.count ≡ z + u + behind = omega (arith, run_within) in e) (let e : left ≡ rest * 2 ^ (z + u) + 0 = omega (arith, low, div-mul-le_self b.standing (2 ^ (z + u))) in e)
+      ∙ pins_append (z + u) behind (rest * 2 ^ (z + u) + 0)
+      ∙ ap₂ ◌++◌ (pins_same 0 (z + u) (rest * 2 ^ (z + u) + 0) (λ i l. bit_at_cat_low rest (z + u) 0 i l ∙ bit_at-zero i)) (ap (pins behind) (div-mul-add rest (2 ^ (z + u)) 0 (pow_pos (z + u))))
 
-  pub run_taken : all_runs (pins n m) ≡ record { first = z + 1; len = u } ∷ all_runs (pins n (rest * 2 ^ (z + u) % 18446744073709551616))
+  pub run_taken : all_runs (row b) ≡ record { first = z + 1; len = u } ∷ all_runs (pins b.count left)
   unfolding all_runs
   run_taken =
       ap (runs_from 1 0) three
       ∙ runs_past_down 1 z (replicate u Standing ++ pins behind rest)
       ∙ runs_past_up (1 + z) 0 u (pins behind rest)
-      ∙ run_over (1 + z + u) (0 + u) behind rest (sym (ap (λ k. k % 2) (shr-shr m z u)) ∙ ups.1)
+      ∙ run_over (1 + z + u) (0 + u) behind rest (sym (ap (λ k. k % 2) (shr-shr b.standing z u)) ∙ ups.1)
       ∙ closed_some (1 + z + u) (0 + u) (runs_from (1 + z + u) 0 (pins behind rest)) (omega (arith, run_some))
       ∙ ap₂ ◌∷◌ (λ i. record { first = (let e : 1 + z + u - (0 + u) ≡ z + 1 = omega arith in e) i; len = (let e : 0 + u ≡ u = omega arith in e) i })
-      (ap (λ k. runs_from k 0 (pins behind rest)) (let e : 1 + z + u ≡ 1 + (z + u) = omega arith in e) ∙ sym (ap (λ k. runs_from 1 0 (pins n k)) cleared ∙ ap (runs_from 1 0) taken ∙ runs_past_down 1 (z + u) (pins behind rest)))
+      (ap (λ k. runs_from k 0 (pins behind rest)) (let e : 1 + z + u ≡ 1 + (z + u) = omega arith in e) ∙ sym (ap (runs_from 1 0) two ∙ runs_past_down 1 (z + u) (pins behind rest)))
 
--- where no pin stands, no run is left
-pub none_left : (n m : ℕ) → m ≡ 0 → all_runs (pins n m) ≡ []
-unfolding all_runs pins closed runs_from
-none_left n m e =
-    ap (λ k. runs_from 1 0 (pins n k)) e ∙ ap (runs_from 1 0) (pins_same 0 n 0 (λ i l. bit_at-zero i) ∙ sym (append-nil (replicate n Down))) ∙ runs_past_down 1 n [] ∙ run_over (1 + n) 0 0 0 refl
+-- where no pin stands, there are no runs
+no_runs_from : (i n : ℕ) → runs_from i 0 (pins n 0) ≡ []
+unfolding runs_from pins closed
+no_runs_from i zero = refl
+no_runs_from i (suc n) = no_runs_from (suc i) n
+
+pub no_runs : (n : ℕ) → all_runs (pins n 0) ≡ []
+unfolding all_runs
+no_runs n = no_runs_from 1 n

@@ -1,13 +1,10 @@
-use Rattle.std.proofs.Common.{◌≡◌, ap, arith}
+use Rattle.std.proofs.Common.{ap, arith}
 use Rattle.kayles.specs.Boards.{row_few}
 use Rattle.kayles.specs.Rows.{row}
-use Rattle.kayles.specs.Tallies.{runs_left, word_of}
+use Rattle.kayles.specs.Tallies.{word_of}
 use Rattle.kayles.proofs.Tallying.{first_fits}
 use Rattle.kayles.specs.Laws.Words.{word_low}
 use Rattle.kayles.proofs.tally.word_of.Goals as goal
-
-pub loop-run-init : goal.loop-run-init
-loop-run-init c = omega (arith, ap (λ s. word_of (runs_left s)) c.into_iter-run-iterator.ensures.into_iter_gives, ap word_of c.runs-run-items.ensures)
 
 pub unit_of-word-requires : goal.unit_of-word-requires
 unit_of-word-requires c = first_fits c.loop-run.run-iterator.left _ _ c.in-Some.ensures.steps
