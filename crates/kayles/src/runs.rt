@@ -2,7 +2,7 @@
 ghost use Rattle.std.specs.Prelude.{◌≡◌, MatchOption};
 ghost use Rattle.std.specs.Iterator.{YieldsFirst, item_count};
 ghost use Rattle.kayles.specs.Rows.{row};
-ghost use Rattle.kayles.specs.Runs.{FirstRun, NoRun};
+ghost use Rattle.kayles.specs.Runs.{FirstRun, NoRun, RunsOf};
 ghost use Rattle.kayles.specs.Tallies.{all_runs, runs_left};
 
 use crate::board::Board;
@@ -24,7 +24,8 @@ pub struct Runs {
 impl Board {
     // All runs, from the left.
     pub fn runs(self) -> Runs
-        ensures { runs_left result ≡ all_runs (row self) }
+        ensures value { runs_left result ≡ all_runs (row self) }
+        ensures meaning { RunsOf (row self) (runs_left result) }
     {
         Runs { left: self }
     }
