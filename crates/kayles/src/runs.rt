@@ -46,18 +46,19 @@ impl Iterator for Runs {
     ghost remaining = { item_count runs_left };
 
     fn next(&mut self) -> Option<Run> {
-        // In 64 bits, 32 pins can be shifted out.
+        // In 64 bits there is room for a pin behind the last.
         let pins = self.left.standing as u64;
         if pins == 0 {
             return None;
         }
         let down = pins.trailing_zeros();
-        let len = (pins >> down).trailing_ones();
-        let end = down + len;
-        self.left.standing = (pins >> end << end) as u32;
+        // The first pin of the run, added, carries through the run to the place behind it, where no pin stands.
+        let carried = pins + (1 << down);
+        let end = carried.trailing_zeros();
+        self.left.standing = (pins & carried) as u32;
         Some(Run {
             first: down as u8 + 1,
-            len: len as u8,
+            len: (end - down) as u8,
         })
     }
 }
