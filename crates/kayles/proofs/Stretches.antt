@@ -1,4 +1,4 @@
--- Which pins stand, and a walk along the row to its next run.
+-- Which pins stand, and where a run can be.
 use Rattle.std.specs.Prelude.{◌≡◌, ℕ, zero, suc, ◌+◌, ◌-◌, ◌/◌, ◌^◌, ◌<◌, ◌≤◌, true, cond, ◌⊎◌, List, ◌∷◌, length, ◌==◌, bit_and, slice_index_or}
 use Rattle.std.proofs.Common.{sym, ap, ◌∙◌, inl, inr, arith}
 use Rattle.std.proofs.lemmas.Nat.{and_mask}

@@ -14,7 +14,7 @@ pub struct Run {
     pub len: u8,
 }
 
-// The runs of a board, from the left.
+// The runs of a board, from the left, as `Board::runs` gives them.
 #[derive(Clone, Copy)]
 pub struct Runs {
     // The board with the runs that were given taken off.
@@ -52,7 +52,7 @@ impl Iterator for Runs {
             return None;
         }
         let down = pins.trailing_zeros();
-        // The first pin of the run, added, carries through the run to the place behind it, where no pin stands.
+        // The run's first pin, added, carries through the run to the place behind it.
         let carried = pins + (1 << down);
         let end = carried.trailing_zeros();
         self.left.standing = (pins & carried) as u32;
