@@ -8,4 +8,4 @@ pub mod Taking
 pub mod Searching
 pub mod Naming
 pub mod Refereeing
-pub mod Summing
+pub mod Passing

@@ -3,8 +3,10 @@ use Rattle.std.specs.Prelude.{◌≡◌, ℕ, zero, suc, ◌+◌, ◌-◌, ◌*�
 use Rattle.kayles.specs.declared.board.Pin.{Pin}
 use Rattle.kayles.specs.declared.board.Pin.TheVariants.{Standing, Down}
 use Rattle.kayles.specs.declared.runs.Run.{Run}
+use Rattle.kayles.specs.declared.runs.Runs.{Runs}
 use Rattle.kayles.specs.declared.tally.RunSet.{RunSet}
 use Rattle.kayles.specs.Limits.{most_pins}
+use Rattle.kayles.specs.Rows.{row}
 use Rattle.kayles.specs.Runs.{RunsOf}
 
 -- the n pins before pin i are a run, if there are any, and then come the runs rs
@@ -21,6 +23,10 @@ runs_from i n (Down ∷ ps) = closed i n (runs_from (suc i) 0 ps)
 -- the list of the runs of a row, from the left
 unfoldable pub all_runs : List Pin → List Run
 all_runs ps = runs_from 1 0 ps
+
+-- the runs that an iterator still gives
+abbrev pub runs_left : Runs → List Run
+runs_left s = all_runs (row s.left)
 
 -- how many of the runs have x pins
 unfoldable pub how_many : ℕ → List Run → ℕ

@@ -12,5 +12,5 @@ mod tally;
 pub use board::{Board, MOST_PINS, Pin};
 pub use game::{Kayles, rules_right, sets_right};
 pub use position::{Knock, Position};
-pub use runs::Run;
+pub use runs::{Run, Runs};
 pub use tally::RunSet;

@@ -1,5 +1,5 @@
 // Sets of positions, by their runs.
-ghost use Rattle.std.specs.Prelude.{◌≡◌, ◌+◌, ◌^◌, ◌<◌, ◌≤◌};
+ghost use Rattle.std.specs.Prelude.{◌≡◌, ◌≤◌};
 ghost use Rattle.kayles.specs.Kayles.{Describes, set_of};
 ghost use Rattle.kayles.specs.Limits.{most_pins};
 ghost use Rattle.kayles.specs.Rows.{row};
@@ -61,25 +61,13 @@ fn unit_of(len: u8) -> u64
     UNITS[len as usize]
 }
 
-// The word with one run of that length more; a run of no pins is none.
-fn with_run(word: u64, len: u8) -> u64
-    requires { (len ≤ most_pins) × (word + unit len < 2 ^ 64) }
-    ensures { result ≡ word + unit len }
-{
-    word + unit_of(len)
-}
-
-// The word of a board's runs: each turn passes over the pins that are down, and then over one run.
+// The word of a board's runs.
 fn word_of(board: Board) -> u64
     ensures { result ≡ word_of (all_runs (row board)) }
 {
     let mut word = 0;
-    let mut rest = board.standing as u64;
-    while rest != 0 {
-        let run = rest >> rest.trailing_zeros();
-        let len = run.trailing_ones();
-        word = with_run(word, len as u8);
-        rest = run >> len;
+    for run in board.runs() {
+        word += unit_of(run.len);
     }
     word
 }

@@ -1,9 +1,7 @@
-use Rattle.std.proofs.Common.{◌≡◌, ◌+◌, ◌^◌, ◌<◌}
-use Rattle.kayles.proofs.Summing.{mask_word}
+use Rattle.std.proofs.Common.{◌≡◌, ◌+◌}
+use Rattle.kayles.specs.Rows.{row}
+use Rattle.kayles.specs.Tallies.{all_runs, runs_left, word_of}
 use Rattle.kayles.proofs.tally.word_of.Given as goal
 
-abbrev pub invariant-loop-rest : goal.invariant-loop-rest
-invariant-loop-rest l = (l.rest < 2 ^ 32) × (l.word + mask_word 0 32 l.rest ≡ mask_word 0 32 l.initial.rest)
-
-abbrev pub decreases-loop-rest : goal.decreases-loop-rest
-decreases-loop-rest l = l.rest
+abbrev pub invariant-loop-run : goal.invariant-loop-run
+invariant-loop-run l = l.word + word_of (runs_left l.run-iterator) ≡ word_of (all_runs (row l.fn.board))
