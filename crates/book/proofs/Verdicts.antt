@@ -1,5 +1,5 @@
 -- A line has one verdict: passed over, accepted with one row, or refused with one fault.
-use Rattle.std.proofs.Common.{◌≡◌, ℕ, ◌<◌, ◌≤◌, ◌⊎◌, List, ◌++◌, map, length, get_or, Ok, Err, sym, refl, ap, ◌∙◌, subst, inl, inr, arith}
+use Rattle.std.proofs.Common.{◌≡◌, ℕ, ◌<◌, ◌≤◌, ◌⊎◌, List, ◌++◌, map, length, get_or, Ok, Err, Some, None, sym, refl, ap, ◌∙◌, subst, inl, inr, arith}
 use lib.ListN.{length-map}
 use Rattle.std.proofs.lemmas.List.{append_cancel_left, append_cancel_right}
 use Rattle.std.proofs.str.Laws.{order}
@@ -8,7 +8,6 @@ use Rattle.kayles.specs.declared.board.Pin.TheVariants.{Down}
 use Rattle.kayles.specs.Rows.{row}
 use Rattle.book.specs.declared.fault.Fault.{Fault}
 use Rattle.book.specs.declared.fault.Fault.TheVariants.{Unclosed, NotAPin, TooManyPins, BookTooLong}
-use Rattle.book.specs.declared.reader.Item.TheVariants.{PassedOver, Board}
 use Rattle.book.specs.BoardLines.{Wrong, FirstWrong, FirstFault, BoardLine, kayles_opening}
 use Rattle.book.specs.Faults.{number}
 use Rattle.book.specs.Readings.{Reading, Reads}
@@ -18,8 +17,8 @@ use Rattle.book.proofs.Spelling.{same_row, shown_at}
 
 -- what the reader finds out about a line
 abbrev pub Found : List ℕ → Reading → Type 0
-Found line (Ok PassedOver) = Opened kayles_opening line → ⊥
-Found line (Ok (Board b)) = BoardLine line (row b)
+Found line (Ok None) = Opened kayles_opening line → ⊥
+Found line (Ok (Some b)) = BoardLine line (row b)
 Found line (Err e) = FirstFault line e.fault e.column
 
 same_text : (line t u : List ℕ) → Tagged kayles_opening line t → Tagged kayles_opening line u → t ≡ u
@@ -85,13 +84,13 @@ apart : ◌≡◌ {A = ℕ} 0 1 → ⊥
 apart z = absurd (omega arith)
 
 pub reads : (line : List ℕ) (r : Reading) → Found line r → Reads line r
-reads line (Ok PassedOver) n = record {
+reads line (Ok None) n = record {
   passed = (λ e. n, λ m. refl);
   accepted = λ ps. (λ (b, e, q). absurd (apart (cc)), λ l. absurd (n (board_opened line ps l)));
   refused = λ k c. (λ (x, e, q, p). absurd (apart (cc)), λ (f, q, l). absurd (n (fault_opened line f c l)));
   tied = λ o. absurd (n o);
 }
-reads line (Ok (Board b)) l = record {
+reads line (Ok (Some b)) l = record {
   passed = (λ e. absurd (apart (cc)), λ n. absurd (n (board_opened line (row b) l)));
   accepted = λ ps. (λ (d, e, q). subst (BoardLine line) (let same : b ≡ d = cc in ap row same ∙ q) l, λ m. (b, refl, same_board line (row b) ps l m));
   refused = λ k c. (λ (x, e, q, p). absurd (apart (cc)), λ (f, q, m). absurd (no_fault line (row b) f c l m));

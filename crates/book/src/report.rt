@@ -1,11 +1,11 @@
 ghost use Rattle.std.specs.Prelude.{◌≡◌, IfOk, string_bytes};
 ghost use Rattle.kayles.specs.Rows.{row};
-ghost use Rattle.book.specs.Reports.{Answered, TheReport, fault_text};
+ghost use Rattle.book.specs.Reports.{Answered, TheReport};
 ghost use Rattle.book.specs.Steps.{ShowsBoard, ShowsRuns};
 
 use crate::fault::Fault;
 use crate::line::lines;
-use crate::reader::{Item, read_line};
+use crate::reader::read_line;
 use kayles::Board;
 use std::alloc::{AllocError, Global};
 
@@ -26,18 +26,6 @@ fn runs_shown(heap: Global, board: Board) -> Result<String, AllocError>
     Ok(out)
 }
 
-// What is printed for a line that is refused with that number and column.
-fn fault_shown(
-    heap: Global,
-    line_number: usize,
-    number: u8,
-    column: usize,
-) -> Result<String, AllocError>
-    ensures { IfOk result (λ s. string_bytes s ≡ fault_text line_number number column) }
-{
-    format!(in heap; "line {line_number} fault {number} column {column}\n")
-}
-
 // What is printed for a line that shows a board.
 fn board_shown(heap: Global, line_number: usize, board: Board) -> Result<String, AllocError>
     ensures { IfOk result (λ s. ShowsBoard line_number (row board) (string_bytes s)) }
@@ -52,16 +40,10 @@ fn board_shown(heap: Global, line_number: usize, board: Board) -> Result<String,
 fn answer(heap: Global, line_number: usize, line: &[u8]) -> Result<String, AllocError>
     ensures { IfOk result (λ s. Answered line_number line.now (string_bytes s)) }
 {
-    let item = match read_line(line) {
-        Ok(item) => item,
-        Err(refusal) => {
-            let number = refusal.fault.number();
-            return fault_shown(heap, line_number, number, refusal.column);
-        }
-    };
-    match item {
-        Item::PassedOver => Ok(String::new(heap)),
-        Item::Board(board) => board_shown(heap, line_number, board),
+    match read_line(line) {
+        Ok(None) => Ok(String::new(heap)),
+        Ok(Some(board)) => board_shown(heap, line_number, board),
+        Err(refusal) => format!(in heap; "line {line_number} {refusal}\n"),
     }
 }
 
@@ -73,8 +55,7 @@ pub fn proofread(heap: Global, book: &[u8]) -> Result<String, AllocError>
     ensures { IfOk result (λ s. TheReport book.now (string_bytes s)) }
 {
     if book.len() > BOOK_LIMIT {
-        let number = Fault::BookTooLong.number();
-        return format!(in heap; "book fault {number}\n");
+        return format!(in heap; "book {}\n", Fault::BookTooLong);
     }
     let found = lines(heap, book)?;
     let mut report = String::new(heap);
