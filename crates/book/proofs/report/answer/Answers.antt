@@ -1,6 +1,8 @@
 use Rattle.std.proofs.Common.{Ok, string_bytes, sym, refl, subst, ◌∙◌}
 use Rattle.std.proofs.lemmas.Result.{IfOk-weaker}
 use Rattle.kayles.specs.Rows.{row}
+use Rattle.kayles.specs.Tallies.{all_runs}
+use Rattle.kayles.proofs.Tallying.{runs_listed}
 use Rattle.book.specs.BoardLines.{BoardLine}
 use Rattle.book.specs.Faults.{number}
 use Rattle.book.specs.Readings.{Reads}
@@ -28,5 +30,5 @@ returns-in-Ok-Some c =
     let b = c.in-Ok-Some.board in
     let told = subst (λ i. Reads line (Ok i)) c.in-Ok-Some.field-0-is c.in-Ok-Some.ensures in
     let shown : BoardLine line (row b) = (told.accepted (row b)).0 (b, refl, refl) in
-    IfOk-weaker c.board_shown.result _ (λ s. Answered c.args.line_number line (string_bytes s))
-    (λ s (rs, runs, p). subst (Answered c.args.line_number line) (sym p) (board (row b) rs shown runs)) c.board_shown.ensures
+    IfOk-weaker c.to_string.result _ (λ s. Answered c.args.line_number line (string_bytes s))
+    (λ s p. subst (Answered c.args.line_number line) (sym p) (board (row b) (all_runs (row b)) shown (runs_listed (row b)))) c.to_string.ensures.ok

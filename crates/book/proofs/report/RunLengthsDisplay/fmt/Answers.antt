@@ -1,0 +1,35 @@
+use Rattle.std.proofs.Common.{◌++◌, sym, refl, ap, ◌∙◌, append_assoc, append-nil, rules}
+use Rattle.std.proofs.Output.{has_written_append, has_written_of_eq}
+use Rattle.kayles.specs.Rows.{row}
+use Rattle.kayles.specs.Tallies.{runs_left}
+use Rattle.book.specs.Reports.{lengths_text}
+use Rattle.book.proofs.Showing.{lengths_more, shown_none, shown_some}
+use Rattle.book.proofs.report.RunLengthsDisplay.fmt.Goals as goal
+
+pub returns-then-standing-eq0-clause-writes : goal.returns-then-standing-eq0-clause-writes
+returns-then-standing-eq0-clause-writes g c = λ plain ok.
+    has_written_of_eq _ _ _ _ _ (shown_none (row c.args.self.now.0) (sym c.standing.ensures ∙ c.if-standing-eq0.true)) (c.write.ensures.writes plain ok)
+
+pub loop-run-init : goal.loop-run-init
+loop-run-init g c = record {
+  left = ap runs_left c.into_iter-run-iterator.ensures.into_iter_gives ∙ c.runs-run-items.ensures;
+  written = search rules;
+}
+
+pub loop-run-preserved : goal.loop-run-preserved
+loop-run-preserved g c =
+    let shown = c.loop-run.yielded in
+    record {
+      left = append_assoc shown _ _ ∙ ap (λ rs. shown ++ rs) (sym c.in-Some.ensures.steps) ∙ c.loop-run.invariant.left;
+      written = λ plain.
+          let before = c.loop-run.invariant.written plain in
+          has_written_of_eq _ _ _ _ _ (lengths_more shown c.in-Some.run') (has_written_append _ _ _ _ _ _ before (c.in_ok-write.ensures.writes before.plain refl));
+    }
+
+pub returns-clause-writes : goal.returns-clause-writes
+returns-clause-writes g c = λ plain ok.
+    let shown = c.loop-run.yielded in
+    let all = sym (append-nil shown) ∙ ap (λ rs. shown ++ rs) (sym c.in-None.ensures.steps.0) ∙ c.loop-run.invariant.left in
+    has_written_of_eq _ _ _ _ _
+    (ap lengths_text all ∙ shown_some (row c.args.self.now.0) (λ e. c.if-standing-eq0.false (c.standing.ensures ∙ e)))
+    (c.loop-run.invariant.written plain)
