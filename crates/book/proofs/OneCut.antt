@@ -1,43 +1,30 @@
 -- A book has one first line, and one list of lines.
-use Rattle.std.proofs.Common.{◌≡◌, ℕ, suc, ◌<◌, ◌⊎◌, List, [], ◌∷◌, ◌++◌, map, length, get_or, sym, refl, ap, ◌∙◌, subst, ap₂, inl, inr, ⊎_elim, append_assoc, append-nil, arith, length-append}
-use Rattle.std.specs.List.{flat_map}
+use Rattle.std.proofs.Common.{◌≡◌, ◌≢◌, ℕ, suc, ◌<◌, ◌⊎◌, List, [], ◌∷◌, ◌++◌, map, length, get_or, sym, refl, ap, ◌∙◌, subst, ap₂, inl, inr, ⊎_elim, append_assoc, append-nil, arith, length-append}
+use Rattle.std.specs.List.{All, flat_map}
+use Rattle.std.proofs.Math.Seq.{get_or-append_seam}
 use Rattle.std.proofs.lemmas.List.{same_from_push}
+use Rattle.std.proofs.lemmas.List.Elements.{All-append, All-cons, All-from_get_or, All-head, All-nil, All-tail}
 use Rattle.book.specs.declared.line.Ending.{Ending}
 use Rattle.book.specs.declared.line.Ending.TheVariants.{Feed, ReturnFeed, End, ReturnEnd}
 use Rattle.book.specs.declared.line.Line.{Line}
 use Rattle.book.specs.Lines.{LF, CR, mark, whole, plain, Fed, Returned, IsLine, WellEnded, LinesOf, FirstLine}
 
--- a list without a line feed
-abbrev Unbroken : List ℕ → Type 0
-Unbroken [] = Unit {0}
-Unbroken (x ∷ xs) = (x ≡ LF → ⊥) × Unbroken xs
-
-unbroken : (xs : List ℕ) → ((k : ℕ) → k < length xs → get_or xs k 0 ≡ LF → ⊥) → Unbroken xs
-unbroken [] h = tt
-unbroken (x ∷ xs) h = (h 0 (omega arith), unbroken xs (λ k l. h (suc k) (omega arith)))
-
-unbroken_more : (xs : List ℕ) (y : ℕ) → Unbroken xs → (y ≡ LF → ⊥) → Unbroken (xs ++ y ∷ [])
-unbroken_more [] y u n = (n, tt)
-unbroken_more (x ∷ xs) y u n = (u.0, unbroken_more xs y u.1 n)
-
-heads : {x y : ℕ} {xs ys : List ℕ} → x ∷ xs ≡ y ∷ ys → x ≡ y
-heads e = cc
-
-tails : {x y : ℕ} {xs ys : List ℕ} → x ∷ xs ≡ y ∷ ys → xs ≡ ys
-tails e = cc
+abbrev pub NoFeed : ℕ → Type 0
+NoFeed x = x ≢ LF
 
 -- the first line feed stands at one place
-same_feed : (a b r s : List ℕ) → Unbroken a → Unbroken b → a ++ LF ∷ r ≡ b ++ LF ∷ s → (a ≡ b) × (r ≡ s)
-same_feed [] [] r s u v e = (refl, tails e)
-same_feed [] (y ∷ b) r s u v e = absurd (v.0 (sym (heads e)))
-same_feed (x ∷ a) [] r s u v e = absurd (u.0 (heads e))
-same_feed (x ∷ a) (y ∷ b) r s u v e = let t = same_feed a b r s u.1 v.1 (tails e) in (ap₂ ◌∷◌ (heads e) t.0, t.1)
+same_feed : (a b r s : List ℕ) → All NoFeed a → All NoFeed b → a ++ LF ∷ r ≡ b ++ LF ∷ s → (a ≡ b) × (r ≡ s)
+same_feed [] [] r s u v e = (refl, cc)
+same_feed [] (y ∷ b) r s u v e = absurd (All-head NoFeed y b v (cc))
+same_feed (x ∷ a) [] r s u v e = absurd (All-head NoFeed x a u (cc))
+same_feed (x ∷ a) (y ∷ b) r s u v e =
+    let t : (a ≡ b) × (r ≡ s) = same_feed a b r s (All-tail NoFeed x a u) (All-tail NoFeed y b v) (cc) in
+    let h : x ≡ y = cc in
+    (ap₂ ◌∷◌ h t.0, t.1)
 
-no_feed : (a b r : List ℕ) → Unbroken b → a ++ LF ∷ r ≡ b → ⊥
-no_feed [] [] r u e = absurd (omega (arith, ap length e))
-no_feed [] (y ∷ b) r u e = u.0 (sym (heads e))
-no_feed (x ∷ a) [] r u e = absurd (omega (arith, ap length e))
-no_feed (x ∷ a) (y ∷ b) r u e = no_feed a b r u.1 (tails e)
+no_feed : (a b r : List ℕ) → All NoFeed b → a ++ LF ∷ r ≡ b → ⊥
+no_feed a b r u e =
+    u (length a) LF (omega (arith, ap length e, length-append a (LF ∷ r))) (ap (λ l. get_or l (length a) LF) (sym e) ∙ get_or-append_seam a LF r LF)
 
 -- an ending is a carriage return or nothing, and then a line feed or nothing
 abbrev returns : Ending → List ℕ
@@ -50,17 +37,14 @@ returns ReturnEnd = CR ∷ []
 abbrev body : Line → List ℕ
 body l = l.text.now ++ returns l.ending
 
-body_unbroken : (l : Line) → IsLine l → Unbroken (body l)
-body_unbroken l i = go l.ending
+body_unbroken : (l : Line) → IsLine l → All NoFeed (body l)
+body_unbroken l i = All-append NoFeed l.text.now (returns l.ending) (All-from_get_or NoFeed l.text.now 0 i.unbroken) (go l.ending)
   where
-    text : Unbroken l.text.now
-    text = unbroken l.text.now i.unbroken
-
-    go : (e : Ending) → Unbroken (l.text.now ++ returns e)
-    go Feed = subst Unbroken (sym (append-nil l.text.now)) text
-    go End = subst Unbroken (sym (append-nil l.text.now)) text
-    go ReturnFeed = unbroken_more l.text.now CR text (λ e. absurd (omega arith))
-    go ReturnEnd = unbroken_more l.text.now CR text (λ e. absurd (omega arith))
+    go : (e : Ending) → All NoFeed (returns e)
+    go Feed = All-nil NoFeed
+    go ReturnFeed = All-cons NoFeed CR [] (omega arith) (All-nil NoFeed)
+    go End = All-nil NoFeed
+    go ReturnEnd = All-cons NoFeed CR [] (omega arith) (All-nil NoFeed)
 
 -- the two ways in which a line can end
 abbrev Ends : Line → Type 0

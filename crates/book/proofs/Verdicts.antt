@@ -79,26 +79,22 @@ same_fault line f g c d (inr a) (inr b) =
 pub same_board : (line : List ℕ) (ps qs : List Pin) → BoardLine line ps → BoardLine line qs → ps ≡ qs
 same_board line ps qs (t, a, s, few) (u, b, v, small) = same_row ps qs (sym s ∙ same_text line t u a b ∙ v)
 
--- two answers of different kinds
-apart : ◌≡◌ {A = ℕ} 0 1 → ⊥
-apart z = absurd (omega arith)
-
 pub reads : (line : List ℕ) (r : Reading) → Found line r → Reads line r
 reads line (Ok None) n = record {
   passed = (λ e. n, λ m. refl);
-  accepted = λ ps. (λ (b, e, q). absurd (apart (cc)), λ l. absurd (n (board_opened line ps l)));
-  refused = λ k c. (λ (x, e, q, p). absurd (apart (cc)), λ (f, q, l). absurd (n (fault_opened line f c l)));
+  accepted = λ ps. (λ (b, e, q). absurd (cc), λ l. absurd (n (board_opened line ps l)));
+  refused = λ k c. (λ (x, e, q, p). absurd (cc), λ (f, q, l). absurd (n (fault_opened line f c l)));
   tied = λ o. absurd (n o);
 }
 reads line (Ok (Some b)) l = record {
-  passed = (λ e. absurd (apart (cc)), λ n. absurd (n (board_opened line (row b) l)));
+  passed = (λ e. absurd (cc), λ n. absurd (n (board_opened line (row b) l)));
   accepted = λ ps. (λ (d, e, q). subst (BoardLine line) (let same : b ≡ d = cc in ap row same ∙ q) l, λ m. (b, refl, same_board line (row b) ps l m));
-  refused = λ k c. (λ (x, e, q, p). absurd (apart (cc)), λ (f, q, m). absurd (no_fault line (row b) f c l m));
+  refused = λ k c. (λ (x, e, q, p). absurd (cc), λ (f, q, m). absurd (no_fault line (row b) f c l m));
   tied = λ o. (λ h k c (f, q, m). no_fault line (row b) f c l m, λ h. (row b, l));
 }
 reads line (Err e) l = record {
-  passed = (λ q. absurd (apart (cc)), λ n. absurd (n (fault_opened line e.fault e.column l)));
-  accepted = λ ps. (λ (b, q, p). absurd (apart (cc)), λ m. absurd (no_fault line ps e.fault e.column m l));
+  passed = (λ q. absurd (cc), λ n. absurd (n (fault_opened line e.fault e.column l)));
+  accepted = λ ps. (λ (b, q, p). absurd (cc), λ m. absurd (no_fault line ps e.fault e.column m l));
   refused = λ k c. (
     λ (x, q, n, p). let same : e ≡ x = cc in (e.fault, ap (λ y. number y.fault) same ∙ n, subst (FirstFault line e.fault) (ap (λ y. y.column) same ∙ p) l),
     λ (f, n, m). let s = same_fault line e.fault f e.column c l m in (e, refl, ap number s.0 ∙ n, s.1),

@@ -24,9 +24,6 @@ cut c =
 the_only : {book rest : List ℕ} {l : Line} → FirstLine book l rest → TheFirstLine book l rest
 the_only {book} {rest} {l} f = (f, λ m others g. same_first_line book m l others rest g f)
 
-pub returns-then-is_empty : goal.returns-then-is_empty
-returns-then-is_empty c = nil_from_length _ (true-eqb _ 0 c.if-is_empty.ensures)
-
 pub returns : goal.returns
 returns c =
     let parts = cut (goal.at.returns c).After-split_at in

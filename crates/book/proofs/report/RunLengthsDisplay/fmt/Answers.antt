@@ -10,22 +10,6 @@ pub returns-then-standing-eq0-clause-writes : goal.returns-then-standing-eq0-cla
 returns-then-standing-eq0-clause-writes g c = λ plain ok.
     has_written_of_eq _ _ _ _ _ (shown_none (row c.args.self.now.0) (sym c.standing.ensures ∙ c.if-standing-eq0.true)) (c.write.ensures.writes plain ok)
 
-pub loop-run-init : goal.loop-run-init
-loop-run-init g c = record {
-  left = ap runs_left c.into_iter-run-iterator.ensures.into_iter_gives ∙ c.runs-run-items.ensures;
-  written = search rules;
-}
-
-pub loop-run-preserved : goal.loop-run-preserved
-loop-run-preserved g c =
-    let shown = c.loop-run.yielded in
-    record {
-      left = append_assoc shown _ _ ∙ ap (λ rs. shown ++ rs) (sym c.in-Some.ensures.steps) ∙ c.loop-run.invariant.left;
-      written = λ plain.
-          let before = c.loop-run.invariant.written plain in
-          has_written_of_eq _ _ _ _ _ (lengths_more shown c.in-Some.run') (has_written_append _ _ _ _ _ _ before (c.in_ok-write.ensures.writes before.plain refl));
-    }
-
 pub returns-clause-writes : goal.returns-clause-writes
 returns-clause-writes g c = λ plain ok.
     let shown = c.loop-run.yielded in
