@@ -1,11 +1,11 @@
-use Rattle.std.proofs.Common.{ℕ, List, [], ◌∷◌, get_or, Some, None, sym, refl, ap, ◌∙◌, add-zero, arith, subst, true-eqb, false-eqb, Bor}
+use Rattle.std.proofs.Common.{ℕ, List, [], ◌∷◌, get_or, Some, None, sym, refl, inl, inr, append-nil, ap, ◌∙◌, add-zero, arith, subst, true-eqb, false-eqb, Bor}
 use Rattle.std.proofs.lemmas.List.{nil_from_length}
 use Rattle.std.proofs.lemmas.Slice.Eq.{strip_suffix_is}
 use Rattle.book.specs.declared.line.Ending.{Ending}
 use Rattle.book.specs.declared.line.Line.{Line}
 use Rattle.book.specs.Lines.{CR, FirstLine, TheFirstLine}
 use Rattle.book.proofs.OneCut.{same_first_line}
-use Rattle.book.proofs.Splits.{Cut, return_feed, return_end, plain_feed, plain_end}
+use Rattle.book.proofs.Splits.{Cut, fed, first_cut}
 use Rattle.book.proofs.line.first_line.Goals as goal
 use Rattle.book.proofs.line.first_line.Goals.{After-split_at, in-Some-Some, in-Some-None, in-None-Some, in-None-None}
 use Rattle.std.proofs.lemmas.Bool.Decides.{Decides-eqb}
@@ -32,14 +32,14 @@ returns c =
     the_only (elim c.match-strip_suffix.branch [
       | in-Some-Some w ↦
           let v = w.in-Some-Some in
-          subst First (sym w.ending-is) (return_feed parts v.text _ _ (suffix (Some v.text) v.ensures.cases) v.ensures'.cases.0)
+          subst First (sym w.ending-is) (first_cut parts _ _ (suffix (Some v.text) v.ensures.cases) (fed parts v.ensures'.cases.0) (inl tt) (λ f e. tt))
       | in-Some-None w ↦
           let v = w.in-Some-None in
-          subst First (sym w.ending-is) (return_end parts v.text (suffix (Some v.text) v.ensures.cases) v.ensures'.cases)
+          subst First (sym w.ending-is) (first_cut parts _ _ (suffix (Some v.text) v.ensures.cases) refl (inr (nil_from_length _ v.ensures'.cases)) (λ f e. tt))
       | in-None-Some w ↦
           let v = w.in-None-Some in
-          subst First (sym w.ending-is) (plain_feed parts c.split_at.result.0 _ _ refl (suffix None v.ensures.cases) v.ensures'.cases.0)
+          subst First (sym w.ending-is) (first_cut parts _ _ (sym (append-nil _)) (fed parts v.ensures'.cases.0) (inl tt) (suffix None v.ensures.cases))
       | in-None-None w ↦
           let v = w.in-None-None in
-          subst First (sym w.ending-is) (plain_end parts c.split_at.result.0 refl (suffix None v.ensures.cases) v.ensures'.cases)
+          subst First (sym w.ending-is) (first_cut parts _ _ (sym (append-nil _)) refl (inr (nil_from_length _ v.ensures'.cases)) (suffix None v.ensures.cases))
     ])
