@@ -1,7 +1,9 @@
 -- The text for a refusal, and for the runs of a board.
-use Rattle.std.proofs.Common.{◌≡◌, ℕ, List, [], ◌∷◌, ◌++◌, codes, decimal, refl, arith, append_assoc, ◌∙◌}
+use Rattle.std.proofs.Common.{◌≡◌, ℕ, List, [], ◌∷◌, ◌++◌, codes, decimal, refl, arith, append_assoc, ◌∙◌, Global, IfOk, Result, String, string_bytes, subst, sym}
 use Rattle.std.specs.List.{concat}
 use Rattle.std.proofs.lemmas.List.{flat_map_more}
+use Rattle.std.specs.declared.alloc.AllocError.{AllocError}
+use Rattle.std.proofs.lemmas.Result.{IfOk-weaker}
 use Rattle.kayles.specs.declared.board.Pin.{Pin}
 use Rattle.kayles.specs.declared.runs.Run.{Run}
 use Rattle.kayles.specs.Rows.{upright}
@@ -12,6 +14,10 @@ use Rattle.kayles.proofs.Tallying.{runs_listed}
 use Rattle.book.specs.declared.fault.Refusal.{Refusal}
 use Rattle.book.specs.Faults.{number, refusal_text}
 use Rattle.book.specs.Reports.{lengths_text, runs_text, fault_text}
+
+-- what holds of a text holds of a string that has it
+pub if_shown : (P : List ℕ → Type 0) (out : List ℕ) (r : Result (String Global) AllocError) → P out → IfOk r (λ s. string_bytes s ≡ out) → IfOk r (λ s. P (string_bytes s))
+if_shown P out r p = IfOk-weaker r (λ s. string_bytes s ≡ out) (λ s. P (string_bytes s)) (λ s e. subst P (sym e) p)
 
 -- a line with a fault, by its refusal
 pub refused_text : (n : ℕ) (e : Refusal) → concat (codes "line " ∷ decimal n ∷ codes " " ∷ refusal_text e ∷ codes "\n" ∷ []) ≡ fault_text n (number e.fault) e.column

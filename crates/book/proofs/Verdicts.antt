@@ -13,7 +13,7 @@ use Rattle.book.specs.Faults.{number}
 use Rattle.book.specs.Readings.{Reading, Reads}
 use Rattle.book.specs.Tags.{Opened, Tagged, closing}
 use Rattle.book.specs.Letters.{letter}
-use Rattle.book.proofs.Spelling.{same_row, shown_at}
+use Rattle.book.proofs.Spelling.{nothing_wrong, same_row}
 
 -- what the reader finds out about a line
 abbrev pub Found : List ℕ → Reading → Type 0
@@ -30,13 +30,6 @@ board_opened line ps (text, tagged, shows, few) = (text ++ closing, tagged)
 pub fault_opened : (line : List ℕ) (f : Fault) (c : ℕ) → FirstFault line f c → Opened kayles_opening line
 fault_opened line f c (inl n) = n.opened
 fault_opened line f c (inr m) = (m.text ++ closing, m.tagged)
-
--- a row of at most 32 pins has nothing wrong with it
-nothing_wrong : (ps : List Pin) (k : ℕ) (f : Fault) → length ps ≤ 32 → k < length ps → Wrong k (get_or (map letter ps) k 0) f → ⊥
-nothing_wrong ps k Unclosed few h w = w
-nothing_wrong ps k BookTooLong few h w = w
-nothing_wrong ps k TooManyPins few h w = absurd (omega arith)
-nothing_wrong ps k NotAPin few h w = w.1 (get_or ps k Down) (shown_at ps k h)
 
 pub no_fault : (line : List ℕ) (ps : List Pin) (f : Fault) (c : ℕ) → BoardLine line ps → FirstFault line f c → ⊥
 no_fault line ps f c (text, tagged, shows, few) (inl n) = n.unclosed text tagged

@@ -1,5 +1,4 @@
 use Rattle.std.proofs.Common.{Ok, string_bytes, sym, refl, subst, ◌∙◌}
-use Rattle.std.proofs.lemmas.Result.{IfOk-weaker}
 use Rattle.kayles.specs.Rows.{row}
 use Rattle.kayles.specs.Tallies.{all_runs}
 use Rattle.kayles.proofs.Tallying.{runs_listed}
@@ -7,16 +6,15 @@ use Rattle.book.specs.BoardLines.{BoardLine}
 use Rattle.book.specs.Faults.{number}
 use Rattle.book.specs.Readings.{Reads}
 use Rattle.book.specs.Reports.{Answered, passed, board, fault}
-use Rattle.book.proofs.Showing.{refused_text}
+use Rattle.book.proofs.Showing.{if_shown, refused_text}
 use Rattle.book.proofs.report.answer.Goals as goal
 
 pub returns-in-Err : goal.returns-in-Err
 returns-in-Err c =
+    let n = c.args.line_number in
     let e = c.in-Err.refusal in
-    let line = c.args.line.now in
     let told = (c.in-Err.ensures.refused (number e.fault) e.column).0 (e, refl, refl, refl) in
-    IfOk-weaker c.format.result _ (λ s. Answered c.args.line_number line (string_bytes s))
-    (λ s p. subst (Answered c.args.line_number line) (sym (p ∙ refused_text c.args.line_number e)) (fault (number e.fault) e.column told)) c.format.ensures.ok
+    if_shown (Answered n c.args.line.now) _ _ (subst (Answered n c.args.line.now) (sym (refused_text n e)) (fault (number e.fault) e.column told)) c.format.ensures.ok
 
 pub returns-in-Ok-None : goal.returns-in-Ok-None
 returns-in-Ok-None c =
@@ -30,5 +28,4 @@ returns-in-Ok-Some c =
     let b = c.in-Ok-Some.board in
     let told = subst (λ i. Reads line (Ok i)) c.in-Ok-Some.field-0-is c.in-Ok-Some.ensures in
     let shown : BoardLine line (row b) = (told.accepted (row b)).0 (b, refl, refl) in
-    IfOk-weaker c.to_string.result _ (λ s. Answered c.args.line_number line (string_bytes s))
-    (λ s p. subst (Answered c.args.line_number line) (sym p) (board (row b) (all_runs (row b)) shown (runs_listed (row b)))) c.to_string.ensures.ok
+    if_shown (Answered c.args.line_number line) _ _ (board (row b) (all_runs (row b)) shown (runs_listed (row b))) c.to_string.ensures.ok
