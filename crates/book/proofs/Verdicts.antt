@@ -4,7 +4,6 @@ use lib.ListN.{length-map}
 use Rattle.std.proofs.lemmas.List.{append_cancel_left, append_cancel_right}
 use Rattle.std.proofs.str.Laws.{order}
 use Rattle.kayles.specs.declared.board.Pin.{Pin}
-use Rattle.kayles.specs.declared.board.Pin.TheVariants.{Down}
 use Rattle.kayles.specs.Rows.{row}
 use Rattle.book.specs.declared.fault.Fault.{Fault}
 use Rattle.book.specs.declared.fault.Fault.TheVariants.{Unclosed, NotAPin, TooManyPins, BookTooLong}

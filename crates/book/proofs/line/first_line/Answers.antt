@@ -1,4 +1,4 @@
-use Rattle.std.proofs.Common.{ℕ, List, [], ◌∷◌, get_or, Some, None, sym, refl, inl, inr, append-nil, ap, ◌∙◌, add-zero, arith, subst, true-eqb, false-eqb, Bor}
+use Rattle.std.proofs.Common.{ℕ, List, [], ◌∷◌, get_or, Some, None, sym, refl, inl, inr, append-nil, ap, ◌∙◌, add-zero, arith, subst, false-eqb, Bor}
 use Rattle.std.proofs.lemmas.List.{nil_from_length}
 use Rattle.std.proofs.lemmas.Slice.Eq.{strip_suffix_is}
 use Rattle.book.specs.declared.line.Ending.{Ending}

@@ -1,6 +1,6 @@
 use Rattle.std.proofs.Common.{sym, subst}
 use Rattle.book.proofs.OneCut.{same_lines}
-use Rattle.book.proofs.Splits.{Sofar, sofar_none, sofar_more, sofar_all, shorter}
+use Rattle.book.proofs.Splits.{Sofar, sofar_more, sofar_all}
 use Rattle.book.proofs.line.lines.Goals as goal
 
 pub loop-line-preserved : goal.loop-line-preserved

@@ -1,11 +1,9 @@
-use Rattle.std.proofs.Common.{map, length, sym, ap, ◌∙◌, subst, arith}
-use Rattle.std.proofs.lemmas.List.{take_all}
+use Rattle.std.proofs.Common.{length, ◌∙◌, subst}
 use Rattle.std.proofs.lemmas.Result.{err_from_is_err_and}
 use Rattle.kayles.specs.Rows.{row}
 use Rattle.kayles.specs.Boards.{row_few}
 use Rattle.book.specs.BoardLines.{Wrong}
-use Rattle.book.specs.Letters.{letter}
-use Rattle.book.proofs.Spelling.{shown_more, first_wrong}
+use Rattle.book.proofs.Spelling.{first_wrong}
 use Rattle.book.proofs.reader.read_board.Goals as goal
 
 pub returns-in_err-board : goal.returns-in_err-board

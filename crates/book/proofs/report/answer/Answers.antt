@@ -1,4 +1,4 @@
-use Rattle.std.proofs.Common.{Ok, string_bytes, sym, refl, subst, ◌∙◌}
+use Rattle.std.proofs.Common.{Ok, sym, refl, subst}
 use Rattle.kayles.specs.Rows.{row}
 use Rattle.kayles.specs.Tallies.{all_runs}
 use Rattle.kayles.proofs.Tallying.{runs_listed}

@@ -1,9 +1,8 @@
-use Rattle.std.proofs.Common.{◌++◌, sym, refl, ap, ◌∙◌, append_assoc, append-nil, rules}
-use Rattle.std.proofs.Output.{has_written_append, has_written_of_eq}
+use Rattle.std.proofs.Common.{◌++◌, sym, ap, ◌∙◌, append-nil}
+use Rattle.std.proofs.Output.{has_written_of_eq}
 use Rattle.kayles.specs.Rows.{row}
-use Rattle.kayles.specs.Tallies.{runs_left}
 use Rattle.book.specs.Reports.{lengths_text}
-use Rattle.book.proofs.Showing.{lengths_more, shown_none, shown_some}
+use Rattle.book.proofs.Showing.{shown_none, shown_some}
 use Rattle.book.proofs.report.RunLengthsDisplay.fmt.Goals as goal
 
 pub returns-then-standing-eq0-clause-writes : goal.returns-then-standing-eq0-clause-writes
