@@ -9,6 +9,7 @@ use Rattle.book.specs.declared.line.Ending.TheVariants.{Feed, ReturnFeed, End, R
 use Rattle.book.specs.declared.line.Line.{Line}
 use Rattle.book.specs.Lines.{LF, CR, mark, whole, plain, Fed, Returned, IsLine, WellEnded, LinesOf, FirstLine}
 
+-- any byte but a line feed
 abbrev pub NoFeed : ℕ → Type 0
 NoFeed x = x ≢ LF
 
@@ -56,11 +57,14 @@ whole_is l rest = ap (λ m. (l.text.now ++ m) ++ rest) (mark_is l.ending) ∙ si
 front_unbroken : (l : Line) → IsLine l → All NoFeed (front l)
 front_unbroken l i = All-append NoFeed l.text.now (returns l.ending) (All-from_get_or NoFeed l.text.now 0 i.unbroken) (go l.ending)
   where
+    one : All NoFeed (CR ∷ [])
+    one = All-cons NoFeed CR [] (omega arith) (All-nil NoFeed)
+
     go : (e : Ending) → All NoFeed (returns e)
     go Feed = All-nil NoFeed
-    go ReturnFeed = All-cons NoFeed CR [] (omega arith) (All-nil NoFeed)
+    go ReturnFeed = one
     go End = All-nil NoFeed
-    go ReturnEnd = All-cons NoFeed CR [] (omega arith) (All-nil NoFeed)
+    go ReturnEnd = one
 
 -- a line feed ends a line, or the book does
 abbrev Ends : Line → Type 0
@@ -75,6 +79,7 @@ ends l = go l.ending
     go End = inr ((λ f. f), refl)
     go ReturnEnd = inr ((λ f. f), refl)
 
+-- such a line has a byte
 pub fed_some : (l : Line) → Fed l.ending → 0 < length (whole l)
 fed_some l f = go (ends l)
   where

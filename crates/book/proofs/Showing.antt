@@ -1,7 +1,6 @@
 -- The text for a refusal, and for the runs of a board.
-use Rattle.std.proofs.Common.{◌≡◌, ℕ, List, [], ◌∷◌, ◌++◌, codes, decimal, refl, arith, append_assoc, ◌∙◌, Global, IfOk, Result, String, string_bytes, subst, sym}
+use Rattle.std.proofs.Common.{◌≡◌, ℕ, List, [], ◌∷◌, codes, decimal, refl, arith, append_assoc, ◌∙◌, Global, IfOk, Result, String, string_bytes, subst, sym}
 use Rattle.std.specs.List.{concat}
-use Rattle.std.proofs.lemmas.List.{flat_map_more}
 use Rattle.std.specs.declared.alloc.AllocError.{AllocError}
 use Rattle.std.proofs.lemmas.Result.{IfOk-weaker}
 use Rattle.kayles.specs.declared.board.Pin.{Pin}
@@ -22,9 +21,6 @@ if_shown P out r p = IfOk-weaker r (λ s. string_bytes s ≡ out) (λ s. P (stri
 -- a line with a fault, by its refusal
 pub refused_text : (n : ℕ) (e : Refusal) → concat (codes "line " ∷ decimal n ∷ codes " " ∷ refusal_text e ∷ codes "\n" ∷ []) ≡ fault_text n (number e.fault) e.column
 refused_text n e = simp append_assoc
-
-pub lengths_more : (rs : List Run) (r : Run) → lengths_text rs ++ (codes " " ++ decimal r.len) ≡ lengths_text (rs ++ r ∷ [])
-lengths_more rs r = flat_map_more (λ (q : Run). codes " " ++ decimal q.len) [] rs r
 
 none_shown : (ps : List Pin) (rs : List Run) → RunsOf ps rs → together rs ≡ 0 → codes " none" ≡ runs_text rs
 unfolding together

@@ -1,7 +1,7 @@
 -- A board's text, read from the left.
-use Rattle.std.proofs.Common.{◌≡◌, ℕ, ◌+◌, ◌<◌, ◌≤◌, List, [], ◌∷◌, ◌++◌, map, length, get_or, take, sym, refl, ap, ◌∙◌, subst, ap₂, arith}
+use Rattle.std.proofs.Common.{◌≡◌, ℕ, ◌+◌, ◌<◌, ◌≤◌, List, [], ◌∷◌, map, length, get_or, take, sym, refl, ap, ◌∙◌, subst, ap₂, arith}
 use lib.ListN.{length-map}
-use Rattle.std.proofs.lemmas.List.{take_more, map_push, length-take-le, get_or-take, get_or-map}
+use Rattle.std.proofs.lemmas.List.{length-take-le, get_or-take, get_or-map}
 use Rattle.kayles.specs.declared.board.Pin.{Pin}
 use Rattle.kayles.specs.declared.board.Pin.TheVariants.{Standing, Down}
 use Rattle.book.specs.declared.fault.Fault.{Fault}
@@ -33,10 +33,6 @@ nothing_wrong ps k TooManyPins few h w = omega arith
 nothing_wrong ps k NotAPin few h w = w.1 (get_or ps k Down) (get_or-map letter ps k Down 0 h)
 
 module _ (text : List ℕ) (i : ℕ) (ps : List Pin) (shown : take i text ≡ map letter ps) where
-  -- one pin more
-  pub shown_more : (p : Pin) → i < length text → get_or text i 0 ≡ letter p → take (i + 1) text ≡ map letter (ps ++ p ∷ [])
-  shown_more p h e = take_more text i 0 h ∙ ap₂ (λ a b. a ++ b ∷ []) shown e ∙ sym (map_push letter ps p)
-
   pub shown_long : i ≤ length text → length ps ≡ i
   shown_long h = sym (length-map ps letter) ∙ ap length (sym shown) ∙ length-take-le i text h
 

@@ -1,8 +1,8 @@
 -- A book, cut at its first line feed.
-use Rattle.std.proofs.Common.{◌≡◌, ℕ, ◌<◌, ◌⊎◌, List, [], ◌∷◌, ◌++◌, length, get_or, sym, refl, ap, ◌∙◌, ap₂, inl, inr, ⊎_elim, append_assoc, append-nil, arith, length-append}
+use Rattle.std.proofs.Common.{◌≡◌, ℕ, ◌<◌, ◌⊎◌, List, [], ◌∷◌, ◌++◌, length, get_or, sym, ap, ◌∙◌, ap₂, inl, inr, ⊎_elim, append_assoc, append-nil, arith, length-append}
 use Rattle.std.specs.List.{All, flat_map}
 use Rattle.std.proofs.lemmas.List.{get_or_append_left, flat_map_more}
-use Rattle.std.proofs.lemmas.List.Elements.{All-head, All-nil, All-push, All-tail}
+use Rattle.std.proofs.lemmas.List.Elements.{All-head, All-push, All-tail}
 use Rattle.book.specs.declared.line.Line.{Line}
 use Rattle.book.specs.Lines.{LF, CR, IsLine, Fed, Returned, WellEnded, LinesOf, FirstLine, whole}
 use Rattle.book.proofs.OneCut.{feeds, fed_some, front, returns, whole_is}
@@ -55,9 +55,6 @@ pub record Sofar (book : List ℕ) (ls : List Line) (rest : List ℕ) : Type 0 w
   pub together : flat_map whole ls ++ rest ≡ book
   pub well_ended : WellEnded ls
   pub fed : 0 < length rest → All FedLine ls
-
-pub sofar_none : (book : List ℕ) → Sofar book [] book
-sofar_none book = record { together = refl; well_ended = tt; fed = λ h. All-nil FedLine }
 
 pub shorter : (rest : List ℕ) (l : Line) (after : List ℕ) → FirstLine rest l after → length after < length rest
 shorter rest l after f = omega (arith, ap length f.together, length-append (whole l) after, f.some)
