@@ -47,7 +47,9 @@ fn grown(board: Board, placed: Placed<'_>) -> Result<Board, Refusal>
 // The board that a text shows, or its first fault; the text begins after `skipped` bytes of its line.
 fn read_board(text: &[u8], skipped: usize) -> Result<Board, Refusal>
     requires { skipped + length text.now < 2 ^ 64 }
-    ensures { MatchResult result (λ b. Shows text.now (row b)) (λ e. FirstWrong text.now skipped e.fault e.column) }
+    ensures { MatchResult result
+        (λ b. Shows text.now (row b))
+        (λ e. FirstWrong text.now skipped e.fault e.column) }
 {
     let mut board = Board::empty();
     for (at, byte) in text.iter().enumerate() {
