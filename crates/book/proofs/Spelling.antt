@@ -1,7 +1,7 @@
 -- A board's text, read from the left.
-use Rattle.std.proofs.Common.{◌≡◌, ℕ, ◌+◌, ◌<◌, ◌≤◌, List, [], ◌∷◌, ◌++◌, map, length, get_or, take, sym, refl, ap, ◌∙◌, subst, ap₂, arith}
+use Rattle.std.proofs.Common.{◌≡◌, ℕ, ◌+◌, ◌<◌, ◌≤◌, List, [], ◌∷◌, map, length, get_or, take, sym, refl, ap, ◌∙◌, subst, ap₂, arith}
 use lib.ListN.{length-map}
-use Rattle.std.proofs.lemmas.List.{take_more, map_push, length-take-le, get_or-take, get_or-map}
+use Rattle.std.proofs.lemmas.List.{length-take-le, get_or-take, get_or-map}
 use Rattle.kayles.specs.declared.board.Pin.{Pin}
 use Rattle.kayles.specs.declared.board.Pin.TheVariants.{Standing, Down}
 use Rattle.book.specs.declared.fault.Fault.{Fault}
@@ -25,15 +25,14 @@ same_row (p ∷ ps) (q ∷ qs) e =
     let b : map letter ps ≡ map letter qs = cc in
     ap₂ ◌∷◌ (letter_inj p q a) (same_row ps qs b)
 
--- the byte at a pin's place is its letter
-pub shown_at : (ps : List Pin) (k : ℕ) → k < length ps → get_or (map letter ps) k 0 ≡ letter (get_or ps k Down)
-shown_at ps k h = get_or-map letter ps k Down 0 h
+-- a row of at most 32 pins has nothing wrong with it
+pub nothing_wrong : (ps : List Pin) (k : ℕ) (f : Fault) → length ps ≤ 32 → k < length ps → Wrong k (get_or (map letter ps) k 0) f → ⊥
+nothing_wrong ps k Unclosed few h w = w
+nothing_wrong ps k BookTooLong few h w = w
+nothing_wrong ps k TooManyPins few h w = omega arith
+nothing_wrong ps k NotAPin few h w = w.1 (get_or ps k Down) (get_or-map letter ps k Down 0 h)
 
 module _ (text : List ℕ) (i : ℕ) (ps : List Pin) (shown : take i text ≡ map letter ps) where
-  -- one pin more
-  pub shown_more : (p : Pin) → i < length text → get_or text i 0 ≡ letter p → take (i + 1) text ≡ map letter (ps ++ p ∷ [])
-  shown_more p h e = take_more text i 0 h ∙ ap₂ (λ a b. a ++ b ∷ []) shown e ∙ sym (map_push letter ps p)
-
   pub shown_long : i ≤ length text → length ps ≡ i
   shown_long h = sym (length-map ps letter) ∙ ap length (sym shown) ∙ length-take-le i text h
 
@@ -51,8 +50,6 @@ module _ (text : List ℕ) (i : ℕ) (ps : List Pin) (shown : take i text ≡ ma
       long = shown_long (omega arith)
 
       none : (k : ℕ) (g : Fault) → k < i → Wrong k (get_or text k 0) g → ⊥
-      none k Unclosed l v = v
-      none k BookTooLong l v = v
-      none k TooManyPins l v = absurd (omega (arith, long))
-      none k NotAPin l v =
-          v.1 (get_or ps k Down) (sym (get_or-take i text k 0 l) ∙ ap (λ t. get_or t k 0) shown ∙ shown_at ps k (omega (arith, long)))
+      none k g l v =
+          let same : get_or text k 0 ≡ get_or (map letter ps) k 0 = sym (get_or-take i text k 0 l) ∙ ap (λ t. get_or t k 0) shown in
+          nothing_wrong ps k g few (omega (arith, long)) (subst (λ x. Wrong k x g) same v)

@@ -1,10 +1,11 @@
 -- A book, cut at its first line feed.
-use Rattle.std.proofs.Common.{◌≡◌, ℕ, ◌<◌, List, [], ◌∷◌, ◌++◌, length, get_or, sym, refl, ap, ◌∙◌, subst, ap₂, inl, inr, ⊎_elim, append_assoc, append-nil, arith, length-append, Bor}
-use Rattle.std.specs.List.{flat_map}
-use Rattle.std.proofs.lemmas.List.{get_or_append_left, flat_map_more, nil_from_length}
-use Rattle.book.specs.declared.line.Ending.TheVariants.{Feed, ReturnFeed, End, ReturnEnd}
+use Rattle.std.proofs.Common.{◌≡◌, ℕ, ◌<◌, ◌⊎◌, List, [], ◌∷◌, ◌++◌, length, get_or, sym, ap, ◌∙◌, ap₂, inl, inr, ⊎_elim, append_assoc, append-nil, arith, length-append}
+use Rattle.std.specs.List.{All, flat_map}
+use Rattle.std.proofs.lemmas.List.{get_or_append_left, flat_map_more}
+use Rattle.std.proofs.lemmas.List.Elements.{All-head, All-push, All-tail}
 use Rattle.book.specs.declared.line.Line.{Line}
-use Rattle.book.specs.Lines.{LF, CR, IsLine, Fed, WellEnded, LinesOf, FirstLine, whole}
+use Rattle.book.specs.Lines.{LF, CR, IsLine, Fed, Returned, WellEnded, LinesOf, FirstLine, whole}
+use Rattle.book.proofs.OneCut.{feeds, fed_some, front, returns, whole_is}
 
 -- the body up to the first line feed or the book's end, and the tail from there on
 pub record Cut (book body tail : List ℕ) : Type 0 where
@@ -14,70 +15,46 @@ pub record Cut (book body tail : List ℕ) : Type 0 where
   pub some : 0 < length book
 
 module _ {book body tail : List ℕ} (c : Cut book body tail) where
-  fed : {x : ℕ} {rest : List ℕ} → tail ≡ x ∷ rest → tail ≡ LF ∷ rest
+  pub fed : {x : ℕ} {rest : List ℕ} → tail ≡ x ∷ rest → tail ≡ LF ∷ rest
   fed {x} {rest} e = e ∙ ap (λ y. y ∷ rest) (sym (ap (λ l. get_or l 0 0) e) ∙ c.feed (omega (arith, ap length e)))
 
-  clean_front : (text : List ℕ) → body ≡ text ++ CR ∷ [] → (k : ℕ) → k < length text → get_or text k 0 ≡ LF → ⊥
-  clean_front text e k l f =
-      c.clean k (omega (arith, ap length e, length-append text (CR ∷ []))) (ap (λ l. get_or l k 0) e ∙ get_or_append_left text (CR ∷ []) 0 k l ∙ f)
-
-  ended : length tail ≡ 0 → book ≡ body
-  ended e = c.whole ∙ ap (λ t. body ++ t) (nil_from_length tail e) ∙ append-nil body
-
-  pub return_feed : (text : Bor (List ℕ)) (x : ℕ) (rest : List ℕ) → body ≡ text.now ++ CR ∷ [] → tail ≡ x ∷ rest → FirstLine book (record { text = text; ending = ReturnFeed }) rest
-  return_feed text x rest b t = record {
-    together = append_assoc text.now (CR ∷ LF ∷ []) rest ∙ sym (append_assoc text.now (CR ∷ []) (LF ∷ rest)) ∙ sym (ap₂ ◌++◌ b (fed t)) ∙ sym c.whole;
-    is_line = record { unbroken = clean_front text.now b; stripped = λ f e. tt };
-    some = omega (arith, length-append text.now (CR ∷ LF ∷ []));
-    ends = inl tt;
+  -- a line whose text and ending were cut off, with its carriage return before the cut and its line feed after it
+  pub first_cut : (l : Line) (rest : List ℕ) → body ≡ front l → tail ≡ feeds l.ending ++ rest → Fed l.ending ⊎ (rest ≡ []) → ((f : List ℕ) → l.text.now ≡ f ++ CR ∷ [] → Returned l.ending) → FirstLine book l rest
+  first_cut l rest b t ends stripped = record {
+    together = together;
+    is_line = record { unbroken = unbroken; stripped = stripped };
+    some = some ends;
+    ends = ends;
   }
+    where
+      together : whole l ++ rest ≡ book
+      together = whole_is l rest ∙ sym (ap₂ ◌++◌ b t) ∙ sym c.whole
 
-  pub return_end : (text : Bor (List ℕ)) → body ≡ text.now ++ CR ∷ [] → length tail ≡ 0 → FirstLine book (record { text = text; ending = ReturnEnd }) tail
-  return_end text b t = record {
-    together = ap (λ l. l ++ tail) (sym b) ∙ sym c.whole;
-    is_line = record { unbroken = clean_front text.now b; stripped = λ f e. tt };
-    some = omega (arith, length-append text.now (CR ∷ []));
-    ends = inr (nil_from_length tail t);
-  }
+      unbroken : (k : ℕ) → k < length l.text.now → get_or l.text.now k 0 ≡ LF → ⊥
+      unbroken k h f =
+          c.clean k (omega (arith, ap length b, length-append l.text.now (returns l.ending))) (ap (λ x. get_or x k 0) b ∙ get_or_append_left l.text.now (returns l.ending) 0 k h ∙ f)
 
-  pub plain_feed : (text : Bor (List ℕ)) (x : ℕ) (rest : List ℕ) → text.now ≡ body → ((front : List ℕ) → body ≡ front ++ CR ∷ [] → ⊥) → tail ≡ x ∷ rest → FirstLine book (record { text = text; ending = Feed }) rest
-  plain_feed text x rest b n t = record {
-    together = append_assoc text.now (LF ∷ []) rest ∙ sym (ap₂ ◌++◌ (sym b) (fed t)) ∙ sym c.whole;
-    is_line = record { unbroken = subst (λ l. (k : ℕ) → k < length l → get_or l k 0 ≡ LF → ⊥) (sym b) c.clean; stripped = λ f e. n f (sym b ∙ e) };
-    some = omega (arith, length-append text.now (LF ∷ []));
-    ends = inl tt;
-  }
+      some : Fed l.ending ⊎ (rest ≡ []) → 0 < length (whole l)
+      some (inl f) = fed_some l f
+      some (inr e) = omega (arith, ap length together, length-append (whole l) rest, ap length e, c.some)
 
-  pub plain_end : (text : Bor (List ℕ)) → text.now ≡ body → ((front : List ℕ) → body ≡ front ++ CR ∷ [] → ⊥) → length tail ≡ 0 → FirstLine book (record { text = text; ending = End }) tail
-  plain_end text b n t = record {
-    together = ap (λ l. l ++ tail) (append-nil text.now ∙ b) ∙ sym c.whole;
-    is_line = record { unbroken = subst (λ l. (k : ℕ) → k < length l → get_or l k 0 ≡ LF → ⊥) (sym b) c.clean; stripped = λ f e. n f (sym b ∙ e) };
-    some = omega (arith, ap length (append-nil text.now), ap length b, ap length (ended t), c.some);
-    ends = inr (nil_from_length tail t);
-  }
+-- a line that ends in a line feed
+abbrev pub FedLine : Line → Type 0
+FedLine l = IsLine l × Fed l.ending
 
--- lines that each end in a line feed
-abbrev pub AllFed : List Line → Type 0
-AllFed [] = Unit {0}
-AllFed (l ∷ ls) = IsLine l × Fed l.ending × AllFed ls
-
-well_ended_more : (ls : List Line) (l : Line) → AllFed ls → IsLine l → 0 < length (whole l) → WellEnded (ls ++ l ∷ [])
+well_ended_more : (ls : List Line) (l : Line) → All FedLine ls → IsLine l → 0 < length (whole l) → WellEnded (ls ++ l ∷ [])
 well_ended_more [] l a i s = (i, inr s)
-well_ended_more (x ∷ []) l a i s = (a.0, a.1, (i, inr s))
-well_ended_more (x ∷ y ∷ ls) l a i s = (a.0, a.1, well_ended_more (y ∷ ls) l a.2 i s)
-
-all_fed_more : (ls : List Line) (l : Line) → AllFed ls → IsLine l → Fed l.ending → AllFed (ls ++ l ∷ [])
-all_fed_more [] l a i f = (i, f, tt)
-all_fed_more (x ∷ ls) l a i f = (a.0, a.1, all_fed_more ls l a.2 i f)
+well_ended_more (x ∷ ls) l a i s = go ls (All-head FedLine x ls a) (well_ended_more ls l (All-tail FedLine x ls a) i s)
+  where
+    go : (ls : List Line) → FedLine x → WellEnded (ls ++ l ∷ []) → WellEnded (x ∷ (ls ++ l ∷ []))
+    go [] f w = (f.0, f.1, w)
+    go (y ∷ ls) f w = (f.0, f.1, w)
 
 -- ls are the lines of the front of the book, and rest is what is left
 pub record Sofar (book : List ℕ) (ls : List Line) (rest : List ℕ) : Type 0 where
   pub together : flat_map whole ls ++ rest ≡ book
   pub well_ended : WellEnded ls
-  pub fed : 0 < length rest → AllFed ls
-
-pub sofar_none : (book : List ℕ) → Sofar book [] book
-sofar_none book = record { together = refl; well_ended = tt; fed = λ h. tt }
+  pub fed : 0 < length rest → All FedLine ls
 
 pub shorter : (rest : List ℕ) (l : Line) (after : List ℕ) → FirstLine rest l after → length after < length rest
 shorter rest l after f = omega (arith, ap length f.together, length-append (whole l) after, f.some)
@@ -88,7 +65,7 @@ sofar_more book ls rest l after s f =
     record {
       together = ap (λ x. x ++ after) (sym (flat_map_more whole [] ls l)) ∙ append_assoc (flat_map whole ls) (whole l) after ∙ ap (λ x. flat_map whole ls ++ x) f.together ∙ s.together;
       well_ended = well_ended_more ls l a f.is_line f.some;
-      fed = λ h. all_fed_more ls l a f.is_line (⊎_elim (λ x. x) (λ e. absurd (omega (arith, ap length e))) f.ends);
+      fed = λ h. All-push FedLine ls l a (f.is_line, ⊎_elim (λ x. x) (λ e. absurd (omega (arith, ap length e))) f.ends);
     }
 
 pub sofar_all : (book : List ℕ) (ls : List Line) (rest : List ℕ) → rest ≡ [] → Sofar book ls rest → LinesOf book ls

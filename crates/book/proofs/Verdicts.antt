@@ -1,25 +1,23 @@
 -- A line has one verdict: passed over, accepted with one row, or refused with one fault.
-use Rattle.std.proofs.Common.{◌≡◌, ℕ, ◌<◌, ◌≤◌, ◌⊎◌, List, ◌++◌, map, length, get_or, Ok, Err, sym, refl, ap, ◌∙◌, subst, inl, inr, arith}
+use Rattle.std.proofs.Common.{◌≡◌, ℕ, ◌<◌, ◌≤◌, ◌⊎◌, List, ◌++◌, map, length, get_or, Ok, Err, Some, None, sym, refl, ap, ◌∙◌, subst, inl, inr, arith}
 use lib.ListN.{length-map}
 use Rattle.std.proofs.lemmas.List.{append_cancel_left, append_cancel_right}
 use Rattle.std.proofs.str.Laws.{order}
 use Rattle.kayles.specs.declared.board.Pin.{Pin}
-use Rattle.kayles.specs.declared.board.Pin.TheVariants.{Down}
 use Rattle.kayles.specs.Rows.{row}
 use Rattle.book.specs.declared.fault.Fault.{Fault}
 use Rattle.book.specs.declared.fault.Fault.TheVariants.{Unclosed, NotAPin, TooManyPins, BookTooLong}
-use Rattle.book.specs.declared.reader.Item.TheVariants.{PassedOver, Board}
 use Rattle.book.specs.BoardLines.{Wrong, FirstWrong, FirstFault, BoardLine, kayles_opening}
 use Rattle.book.specs.Faults.{number}
 use Rattle.book.specs.Readings.{Reading, Reads}
 use Rattle.book.specs.Tags.{Opened, Tagged, closing}
 use Rattle.book.specs.Letters.{letter}
-use Rattle.book.proofs.Spelling.{same_row, shown_at}
+use Rattle.book.proofs.Spelling.{nothing_wrong, same_row}
 
 -- what the reader finds out about a line
 abbrev pub Found : List ℕ → Reading → Type 0
-Found line (Ok PassedOver) = Opened kayles_opening line → ⊥
-Found line (Ok (Board b)) = BoardLine line (row b)
+Found line (Ok None) = Opened kayles_opening line → ⊥
+Found line (Ok (Some b)) = BoardLine line (row b)
 Found line (Err e) = FirstFault line e.fault e.column
 
 same_text : (line t u : List ℕ) → Tagged kayles_opening line t → Tagged kayles_opening line u → t ≡ u
@@ -31,13 +29,6 @@ board_opened line ps (text, tagged, shows, few) = (text ++ closing, tagged)
 pub fault_opened : (line : List ℕ) (f : Fault) (c : ℕ) → FirstFault line f c → Opened kayles_opening line
 fault_opened line f c (inl n) = n.opened
 fault_opened line f c (inr m) = (m.text ++ closing, m.tagged)
-
--- a row of at most 32 pins has nothing wrong with it
-nothing_wrong : (ps : List Pin) (k : ℕ) (f : Fault) → length ps ≤ 32 → k < length ps → Wrong k (get_or (map letter ps) k 0) f → ⊥
-nothing_wrong ps k Unclosed few h w = w
-nothing_wrong ps k BookTooLong few h w = w
-nothing_wrong ps k TooManyPins few h w = absurd (omega arith)
-nothing_wrong ps k NotAPin few h w = w.1 (get_or ps k Down) (shown_at ps k h)
 
 pub no_fault : (line : List ℕ) (ps : List Pin) (f : Fault) (c : ℕ) → BoardLine line ps → FirstFault line f c → ⊥
 no_fault line ps f c (text, tagged, shows, few) (inl n) = n.unclosed text tagged
@@ -80,26 +71,22 @@ same_fault line f g c d (inr a) (inr b) =
 pub same_board : (line : List ℕ) (ps qs : List Pin) → BoardLine line ps → BoardLine line qs → ps ≡ qs
 same_board line ps qs (t, a, s, few) (u, b, v, small) = same_row ps qs (sym s ∙ same_text line t u a b ∙ v)
 
--- two answers of different kinds
-apart : ◌≡◌ {A = ℕ} 0 1 → ⊥
-apart z = absurd (omega arith)
-
 pub reads : (line : List ℕ) (r : Reading) → Found line r → Reads line r
-reads line (Ok PassedOver) n = record {
+reads line (Ok None) n = record {
   passed = (λ e. n, λ m. refl);
-  accepted = λ ps. (λ (b, e, q). absurd (apart (cc)), λ l. absurd (n (board_opened line ps l)));
-  refused = λ k c. (λ (x, e, q, p). absurd (apart (cc)), λ (f, q, l). absurd (n (fault_opened line f c l)));
+  accepted = λ ps. (λ (b, e, q). absurd (cc), λ l. absurd (n (board_opened line ps l)));
+  refused = λ k c. (λ (x, e, q, p). absurd (cc), λ (f, q, l). absurd (n (fault_opened line f c l)));
   tied = λ o. absurd (n o);
 }
-reads line (Ok (Board b)) l = record {
-  passed = (λ e. absurd (apart (cc)), λ n. absurd (n (board_opened line (row b) l)));
+reads line (Ok (Some b)) l = record {
+  passed = (λ e. absurd (cc), λ n. absurd (n (board_opened line (row b) l)));
   accepted = λ ps. (λ (d, e, q). subst (BoardLine line) (let same : b ≡ d = cc in ap row same ∙ q) l, λ m. (b, refl, same_board line (row b) ps l m));
-  refused = λ k c. (λ (x, e, q, p). absurd (apart (cc)), λ (f, q, m). absurd (no_fault line (row b) f c l m));
+  refused = λ k c. (λ (x, e, q, p). absurd (cc), λ (f, q, m). absurd (no_fault line (row b) f c l m));
   tied = λ o. (λ h k c (f, q, m). no_fault line (row b) f c l m, λ h. (row b, l));
 }
 reads line (Err e) l = record {
-  passed = (λ q. absurd (apart (cc)), λ n. absurd (n (fault_opened line e.fault e.column l)));
-  accepted = λ ps. (λ (b, q, p). absurd (apart (cc)), λ m. absurd (no_fault line ps e.fault e.column m l));
+  passed = (λ q. absurd (cc), λ n. absurd (n (fault_opened line e.fault e.column l)));
+  accepted = λ ps. (λ (b, q, p). absurd (cc), λ m. absurd (no_fault line ps e.fault e.column m l));
   refused = λ k c. (
     λ (x, q, n, p). let same : e ≡ x = cc in (e.fault, ap (λ y. number y.fault) same ∙ n, subst (FirstFault line e.fault) (ap (λ y. y.column) same ∙ p) l),
     λ (f, n, m). let s = same_fault line e.fault f e.column c l m in (e, refl, ap number s.0 ∙ n, s.1),

@@ -1,26 +1,24 @@
 -- What reading a line answers.
-use Rattle.std.specs.Prelude.{◌≡◌, ℕ, ◌↔◌, List, Ok, Err, Result}
-use Rattle.kayles.specs.declared.board.Board.{Board as KaylesBoard}
+use Rattle.std.specs.Prelude.{◌≡◌, ℕ, ◌↔◌, List, Ok, Err, Result, Some, None, Option}
+use Rattle.kayles.specs.declared.board.Board.{Board}
 use Rattle.kayles.specs.declared.board.Pin.{Pin}
 use Rattle.kayles.specs.Rows.{row}
 use Rattle.book.specs.declared.fault.Fault.{Fault}
 use Rattle.book.specs.declared.fault.Refusal.{Refusal}
-use Rattle.book.specs.declared.reader.Item.{Item}
-use Rattle.book.specs.declared.reader.Item.TheVariants.{PassedOver, Board}
 use Rattle.book.specs.BoardLines.{BoardLine, FirstFault, kayles_opening}
 use Rattle.book.specs.Faults.{number}
 use Rattle.book.specs.Tags.{Opened}
 
 abbrev pub Reading : Type 0
-Reading = Result Item Refusal
+Reading = Result (Option Board) Refusal
 
 -- the line is passed over
 abbrev pub Passes : Reading → Type 0
-Passes r = r ≡ Ok PassedOver
+Passes r = r ≡ Ok None
 
 -- the line is accepted with a board of that row
 abbrev pub Accepts : Reading → List Pin → Type 0
-Accepts r ps = (b : KaylesBoard) × (r ≡ Ok (Board b)) × (row b ≡ ps)
+Accepts r ps = (b : Board) × (r ≡ Ok (Some b)) × (row b ≡ ps)
 
 -- the line is refused with that number and column
 abbrev pub Refuses : Reading → ℕ → ℕ → Type 0

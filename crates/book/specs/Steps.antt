@@ -1,17 +1,14 @@
--- What the private steps of reading and printing promise to the calls above them.
-use Rattle.std.specs.Prelude.{◌≡◌, ℕ, ◌<◌, List, [], ◌∷◌, ◌++◌, length, Ok, Err, Result, ◌≢◌}
+-- What the private steps of reading promise to the calls above them.
+use Rattle.std.specs.Prelude.{◌≡◌, ℕ, ◌<◌, [], ◌∷◌, ◌++◌, length, Ok, Err, Result, ◌≢◌}
 use Rattle.kayles.specs.declared.board.Board.{Board}
 use Rattle.kayles.specs.declared.board.Pin.{Pin as KaylesPin}
-use Rattle.kayles.specs.declared.runs.Run.{Run}
 use Rattle.kayles.specs.Limits.{most_pins}
 use Rattle.kayles.specs.Rows.{row}
-use Rattle.kayles.specs.Runs.{RunsOf}
 use Rattle.book.specs.declared.fault.Refusal.{Refusal}
 use Rattle.book.specs.declared.token.Token.{Token}
 use Rattle.book.specs.declared.token.Token.TheVariants.{Pin, Stray}
 use Rattle.book.specs.BoardLines.{Wrong}
 use Rattle.book.specs.Letters.{letter}
-use Rattle.book.specs.Reports.{board_text, runs_text}
 
 -- the byte that a token borrows
 abbrev pub borrowed : Token → ℕ
@@ -27,11 +24,3 @@ Told (Stray x) = (p : KaylesPin) → x.now ≢ letter p
 abbrev pub Grown : Board → ℕ → ℕ → Result Board Refusal → Type 0
 Grown b c column (Ok d) = (length (row b) < most_pins) × ((p : KaylesPin) × (c ≡ letter p) × (row d ≡ row b ++ p ∷ []))
 Grown b c column (Err e) = Wrong (length (row b)) c e.fault × (e.column ≡ column)
-
--- the text has the lengths of all runs of the row
-abbrev pub ShowsRuns : List KaylesPin → List ℕ → Type 0
-ShowsRuns ps out = (rs : List Run) × RunsOf ps rs × (out ≡ runs_text rs)
-
--- and this one is what is printed for it
-abbrev pub ShowsBoard : ℕ → List KaylesPin → List ℕ → Type 0
-ShowsBoard n ps out = (rs : List Run) × RunsOf ps rs × (out ≡ board_text n ps rs)

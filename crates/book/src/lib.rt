@@ -9,5 +9,5 @@ mod token;
 
 pub use fault::{Fault, Refusal};
 pub use line::{Ending, Line, first_line, lines};
-pub use reader::{Item, read_line};
+pub use reader::read_line;
 pub use report::proofread;

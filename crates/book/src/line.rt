@@ -4,7 +4,7 @@ ghost use Rattle.book.specs.Lines.{LF, TheFirstLine, TheLines};
 use std::alloc::{AllocError, Global};
 
 // How a line ends: at a line feed or at the book's end, with or without a carriage return just before.
-#[derive(Clone, Copy)]
+#[derive(Clone, Copy, Debug, PartialEq, Eq)]
 pub enum Ending {
     // A line feed.
     Feed,
@@ -17,7 +17,7 @@ pub enum Ending {
 }
 
 // A line of a book, without its ending.
-#[derive(Clone, Copy)]
+#[derive(Clone, Copy, Debug, PartialEq, Eq)]
 pub struct Line<'a> {
     pub text: &'a [u8],
     pub ending: Ending,
@@ -29,12 +29,9 @@ fn feed_at(book: &[u8]) -> usize
     ensures before { (k : ℕ) → k < result → slice_index book.now k ≢ LF }
     ensures here { result < length book.now → slice_index book.now result ≡ LF }
 {
-    for (i, byte) in book.iter().enumerate() {
-        if *byte == b'\n' {
-            return i;
-        }
-    }
-    book.len()
+    book.iter()
+        .position(|byte| *byte == b'\n')
+        .unwrap_or(book.len())
 }
 
 // The first line of a book and the rest of the book; an empty book has none.
@@ -45,36 +42,13 @@ pub fn first_line<'a>(book: &'a [u8]) -> Option<(Line<'a>, &'a [u8])>
         return None;
     }
     let (body, tail) = book.split_at(feed_at(book));
-    match (body.strip_suffix(b"\r"), tail.split_first()) {
-        (Some(text), Some((_, rest))) => Some((
-            Line {
-                text,
-                ending: Ending::ReturnFeed,
-            },
-            rest,
-        )),
-        (None, Some((_, rest))) => Some((
-            Line {
-                text: body,
-                ending: Ending::Feed,
-            },
-            rest,
-        )),
-        (Some(text), None) => Some((
-            Line {
-                text,
-                ending: Ending::ReturnEnd,
-            },
-            tail,
-        )),
-        (None, None) => Some((
-            Line {
-                text: body,
-                ending: Ending::End,
-            },
-            tail,
-        )),
-    }
+    let (text, ending, rest) = match (body.strip_suffix(b"\r"), tail.split_first()) {
+        (Some(text), Some((_, rest))) => (text, Ending::ReturnFeed, rest),
+        (None, Some((_, rest))) => (body, Ending::Feed, rest),
+        (Some(text), None) => (text, Ending::ReturnEnd, tail),
+        (None, None) => (body, Ending::End, tail),
+    };
+    Some((Line { text, ending }, rest))
 }
 
 // The lines of a book, in order.

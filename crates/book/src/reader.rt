@@ -10,15 +10,6 @@ use crate::fault::{Fault, Refusal};
 use crate::token::{Placed, Token, board_token};
 use kayles::{Board, MOST_PINS};
 
-// What a line says that is not refused.
-#[derive(Clone, Copy)]
-pub enum Item {
-    // It is no board line, and nothing is printed for it.
-    PassedOver,
-    // It shows this board.
-    Board(Board),
-}
-
 // How a board line begins, and how it ends.
 const KAYLES_OPENING: &[u8] = b"[Kayles \"";
 
@@ -56,21 +47,23 @@ fn grown(board: Board, placed: Placed<'_>) -> Result<Board, Refusal>
 // The board that a text shows, or its first fault; the text begins after `skipped` bytes of its line.
 fn read_board(text: &[u8], skipped: usize) -> Result<Board, Refusal>
     requires { skipped + length text.now < 2 ^ 64 }
-    ensures { MatchResult result (λ b. Shows text.now (row b)) (λ e. FirstWrong text.now skipped e.fault e.column) }
+    ensures { MatchResult result
+        (λ b. Shows text.now (row b))
+        (λ e. FirstWrong text.now skipped e.fault e.column) }
 {
     let mut board = Board::empty();
     for (at, byte) in text.iter().enumerate() {
-        board = grown(board, board_token(byte, at, skipped))?;
+        board = grown(board, board_token(byte, skipped + at + 1))?;
     }
     Ok(board)
 }
 
-// Reads one line.
-pub fn read_line(line: &[u8]) -> Result<Item, Refusal>
+// Reads one line: the board that it shows, or nothing where it is no board line.
+pub fn read_line(line: &[u8]) -> Result<Option<Board>, Refusal>
     ensures { Reads line.now result }
 {
     let Some(rest) = line.strip_prefix(KAYLES_OPENING) else {
-        return Ok(Item::PassedOver);
+        return Ok(None);
     };
     let Some(text) = rest.strip_suffix(CLOSING) else {
         return Err(Refusal {
@@ -78,5 +71,5 @@ pub fn read_line(line: &[u8]) -> Result<Item, Refusal>
             column: line.len(),
         });
     };
-    Ok(Item::Board(read_board(text, KAYLES_OPENING.len())?))
+    Ok(Some(read_board(text, KAYLES_OPENING.len())?))
 }

@@ -1,67 +1,63 @@
-ghost use Rattle.std.specs.Prelude.{◌≡◌, IfOk, string_bytes};
+ghost use Rattle.std.specs.Prelude.{IfOk, Some, string_bytes};
 ghost use Rattle.kayles.specs.Rows.{row};
-ghost use Rattle.book.specs.Reports.{Answered, TheReport, fault_text};
-ghost use Rattle.book.specs.Steps.{ShowsBoard, ShowsRuns};
+ghost use Rattle.kayles.specs.Tallies.{all_runs};
+ghost use Rattle.book.specs.Reports.{Answered, TheReport, board_text, runs_text};
 
 use crate::fault::Fault;
 use crate::line::lines;
-use crate::reader::{Item, read_line};
+use crate::reader::read_line;
 use kayles::Board;
 use std::alloc::{AllocError, Global};
+use std::fmt;
 
 // The lengths of the runs, from the left, each after a space, or a word where there are none.
-fn runs_shown(heap: Global, board: Board) -> Result<String, AllocError>
-    ensures { IfOk result (λ s. ShowsRuns (row board) (string_bytes s)) }
-{
-    let mut out = String::new(heap);
-    let mut from = 1;
-    while let Some(run) = board.next_run(from) {
-        let len = run.len;
-        out.push_str(format!(in heap; " {len}")?.as_str())?;
-        from = run.first + len;
-    }
-    if out.is_empty() {
-        out.push_str(" none")?;
-    }
-    Ok(out)
-}
+#[derive(Clone, Copy)]
+struct RunLengths(Board);
 
-// What is printed for a line that is refused with that number and column.
-fn fault_shown(
-    heap: Global,
-    line_number: usize,
-    number: u8,
-    column: usize,
-) -> Result<String, AllocError>
-    ensures { IfOk result (λ s. string_bytes s ≡ fault_text line_number number column) }
-{
-    format!(in heap; "line {line_number} fault {number} column {column}\n")
+impl fmt::Display for RunLengths {
+    ghost output = { λ s. Some (runs_text (all_runs (row s.0))) };
+
+    fn fmt<W: fmt::Write>(&self, f: &mut fmt::Formatter<W>) -> fmt::Result {
+        if self.0.standing() == 0 {
+            return write!(f, " none");
+        }
+        for run in self.0.runs() {
+            write!(f, " {}", run.len)?;
+        }
+        Ok(())
+    }
 }
 
 // What is printed for a line that shows a board.
-fn board_shown(heap: Global, line_number: usize, board: Board) -> Result<String, AllocError>
-    ensures { IfOk result (λ s. ShowsBoard line_number (row board) (string_bytes s)) }
-{
-    let pins = board.len();
-    let standing = board.standing();
-    let lengths = runs_shown(heap, board)?;
-    format!(in heap; "kayles {line_number}\npins {pins} standing {standing}\nruns{lengths}\n")
+#[derive(Clone, Copy)]
+struct BoardReport {
+    line_number: usize,
+    board: Board,
+}
+
+impl fmt::Display for BoardReport {
+    ghost output = { λ s. Some (board_text s.line_number (row s.board) (all_runs (row s.board))) };
+
+    fn fmt<W: fmt::Write>(&self, f: &mut fmt::Formatter<W>) -> fmt::Result {
+        let line_number = self.line_number;
+        let pins = self.board.len();
+        let standing = self.board.standing();
+        let lengths = RunLengths(self.board);
+        write!(
+            f,
+            "kayles {line_number}\npins {pins} standing {standing}\nruns{lengths}\n"
+        )
+    }
 }
 
 // What is printed for a line.
 fn answer(heap: Global, line_number: usize, line: &[u8]) -> Result<String, AllocError>
     ensures { IfOk result (λ s. Answered line_number line.now (string_bytes s)) }
 {
-    let item = match read_line(line) {
-        Ok(item) => item,
-        Err(refusal) => {
-            let number = refusal.fault.number();
-            return fault_shown(heap, line_number, number, refusal.column);
-        }
-    };
-    match item {
-        Item::PassedOver => Ok(String::new(heap)),
-        Item::Board(board) => board_shown(heap, line_number, board),
+    match read_line(line) {
+        Ok(None) => Ok(String::new(heap)),
+        Ok(Some(board)) => BoardReport { line_number, board }.to_string(heap),
+        Err(refusal) => format!(in heap; "line {line_number} {refusal}\n"),
     }
 }
 
@@ -73,8 +69,7 @@ pub fn proofread(heap: Global, book: &[u8]) -> Result<String, AllocError>
     ensures { IfOk result (λ s. TheReport book.now (string_bytes s)) }
 {
     if book.len() > BOOK_LIMIT {
-        let number = Fault::BookTooLong.number();
-        return format!(in heap; "book fault {number}\n");
+        return format!(in heap; "book {}\n", Fault::BookTooLong);
     }
     let found = lines(heap, book)?;
     let mut report = String::new(heap);

@@ -1,4 +1,4 @@
-ghost use Rattle.std.specs.Prelude.{◌≡◌, ◌+◌, ◌^◌, ◌<◌};
+ghost use Rattle.std.specs.Prelude.{◌≡◌};
 ghost use Rattle.book.specs.Steps.{Told, borrowed};
 
 use kayles::Pin;
@@ -19,21 +19,16 @@ pub(crate) struct Placed<'a> {
     pub(crate) column: usize,
 }
 
-// The token that a byte of a board's text is: `at` bytes of the text stand before it, and before these `skipped` bytes of
-// the line.
-pub(crate) fn board_token<'a>(byte: &'a u8, at: usize, skipped: usize) -> Placed<'a>
-    requires { skipped + at + 1 < 2 ^ 64 }
+// The token that a byte of a board's text is, in that column of its line.
+pub(crate) fn board_token<'a>(byte: &'a u8, column: usize) -> Placed<'a>
     ensures told { Told result.token }
     ensures byte { borrowed result.token ≡ byte.now }
-    ensures column { result.column ≡ skipped + at + 1 }
+    ensures column { result.column ≡ column }
 {
     let token = match *byte {
         b'X' => Token::Pin(Pin::Standing, byte),
         b'.' => Token::Pin(Pin::Down, byte),
         _ => Token::Stray(byte),
     };
-    Placed {
-        token,
-        column: skipped + at + 1,
-    }
+    Placed { token, column }
 }

@@ -6,7 +6,7 @@ mod boards;
 
 #[cfg(test)]
 mod tests {
-    use book::{Ending, Item, first_line, lines, proofread, read_line};
+    use book::{Ending, first_line, lines, proofread, read_line};
     use kayles::{Board, Pin};
     use search::{Bound, CallError, Game};
     use std::alloc::{AllocError, Global};
@@ -18,55 +18,47 @@ mod tests {
         Ok(report.as_str() == expected)
     }
 
-    // The number and the column with which a line is refused, or two zeros.
-    fn refused(line: &[u8]) -> (u8, usize) {
-        match read_line(line) {
-            Ok(_) => (0, 0),
-            Err(refusal) => (refusal.fault.number(), refusal.column),
-        }
+    // The number and the column with which a line is refused.
+    fn refused(line: &[u8]) -> Option<(u8, usize)> {
+        let refusal = read_line(line).err()?;
+        Some((refusal.fault.number(), refusal.column))
     }
 
     // The board of a line that is accepted.
     fn shown(line: &[u8]) -> Option<Board> {
-        let Ok(item) = read_line(line) else {
-            return None;
-        };
-        match item {
-            Item::Board(board) => Some(board),
-            Item::PassedOver => None,
-        }
+        read_line(line).ok()?
     }
 
     #[test]
     fn faults_of_board_lines(rt: HostRuntime) {
-        assert_eq!(rt; refused(b"[Kayles \""), (2, 9));
-        assert_eq!(rt; refused(b"[Kayles \"]"), (2, 10));
-        assert_eq!(rt; refused(b"[Kayles \"x"), (2, 10));
-        assert_eq!(rt; refused(b"[Kayles \"X\"] "), (2, 13));
-        assert_eq!(rt; refused(b"[Kayles \"X\"]\"]"), (8, 11));
-        assert_eq!(rt; refused(b"[Kayles \"Xx\"]"), (8, 11));
-        assert_eq!(rt; refused(b"[Kayles \" X\"]"), (8, 10));
-        assert_eq!(rt; refused(b"[Kayles \"X\0\"]"), (8, 11));
-        assert_eq!(rt; refused(b"[Kayles \"X\xff\"]"), (8, 11));
+        assert_eq!(rt; refused(b"[Kayles \""), Some((2, 9)));
+        assert_eq!(rt; refused(b"[Kayles \"]"), Some((2, 10)));
+        assert_eq!(rt; refused(b"[Kayles \"x"), Some((2, 10)));
+        assert_eq!(rt; refused(b"[Kayles \"X\"] "), Some((2, 13)));
+        assert_eq!(rt; refused(b"[Kayles \"X\"]\"]"), Some((8, 11)));
+        assert_eq!(rt; refused(b"[Kayles \"Xx\"]"), Some((8, 11)));
+        assert_eq!(rt; refused(b"[Kayles \" X\"]"), Some((8, 10)));
+        assert_eq!(rt; refused(b"[Kayles \"X\0\"]"), Some((8, 11)));
+        assert_eq!(rt; refused(b"[Kayles \"X\xff\"]"), Some((8, 11)));
     }
 
     #[test]
     fn the_33rd_byte(rt: HostRuntime) {
         assert_eq!(rt;
             refused(b"[Kayles \"XXXXXXXXXXXXXXXXXXXXXXXXXXXXXXXX\"]"),
-            (0, 0)
+            None
         );
         assert_eq!(rt;
             refused(b"[Kayles \"XXXXXXXXXXXXXXXXXXXXXXXXXXXXXXXXX\"]"),
-            (9, 42)
+            Some((9, 42))
         );
         assert_eq!(rt;
             refused(b"[Kayles \"XXXXXXXXXXXXXXXXXXXXXXXXXXXXXXXXy\"]"),
-            (9, 42)
+            Some((9, 42))
         );
         assert_eq!(rt;
             refused(b"[Kayles \"XXXXXXXXXXXXXXXXXXXXXXXXXXXXXXXyX\"]"),
-            (8, 41)
+            Some((8, 41))
         );
     }
 
@@ -126,11 +118,11 @@ mod tests {
             return Err(Fail::new("no first line"));
         };
         assert!(rt; line.text == b"a\r".as_slice() && rest == b"\nb".as_slice());
-        assert!(rt; matches!(line.ending, Ending::ReturnFeed));
+        assert_eq!(rt; line.ending, Ending::ReturnFeed);
         let found = lines(rt.alloc(), b"a\r\r\n\nb")?;
         assert!(rt; found.len() == 3);
         assert!(rt; found[1].text.is_empty() && found[2].text == b"b".as_slice());
-        assert!(rt; matches!(found[2].ending, Ending::End));
+        assert_eq!(rt; found[2].ending, Ending::End);
         Ok(())
     }
 

@@ -1,12 +1,13 @@
-use Rattle.std.proofs.Common.{ℕ, List, [], ◌∷◌, get_or, Some, None, sym, refl, ap, ◌∙◌, add-zero, arith, true-eqb, false-eqb}
+use Rattle.std.proofs.Common.{ℕ, List, [], ◌∷◌, get_or, Some, None, sym, refl, inl, inr, append-nil, ap, ◌∙◌, add-zero, arith, subst, false-eqb, Bor}
 use Rattle.std.proofs.lemmas.List.{nil_from_length}
 use Rattle.std.proofs.lemmas.Slice.Eq.{strip_suffix_is}
+use Rattle.book.specs.declared.line.Ending.{Ending}
 use Rattle.book.specs.declared.line.Line.{Line}
 use Rattle.book.specs.Lines.{CR, FirstLine, TheFirstLine}
 use Rattle.book.proofs.OneCut.{same_first_line}
-use Rattle.book.proofs.Splits.{Cut, return_feed, return_end, plain_feed, plain_end}
+use Rattle.book.proofs.Splits.{Cut, fed, first_cut}
 use Rattle.book.proofs.line.first_line.Goals as goal
-use Rattle.book.proofs.line.first_line.Goals.{After-split_at}
+use Rattle.book.proofs.line.first_line.Goals.{After-split_at, in-Some-Some, in-Some-None, in-None-Some, in-None-None}
 use Rattle.std.proofs.lemmas.Bool.Decides.{Decides-eqb}
 
 -- what was found and split off
@@ -23,25 +24,22 @@ cut c =
 the_only : {book rest : List ℕ} {l : Line} → FirstLine book l rest → TheFirstLine book l rest
 the_only {book} {rest} {l} f = (f, λ m others g. same_first_line book m l others rest g f)
 
-pub returns-then-is_empty : goal.returns-then-is_empty
-returns-then-is_empty c = nil_from_length _ (true-eqb _ 0 c.if-is_empty.ensures)
-
-pub returns-in-Some-Some : goal.returns-in-Some-Some
-returns-in-Some-Some c =
-    the_only (return_feed (cut (goal.at.returns-in-Some-Some c).After-split_at) c.in-Some-Some.text _ _
-    (strip_suffix_is Decides-eqb _ (CR ∷ []) (Some c.in-Some-Some.text) c.in-Some-Some.ensures.cases) c.in-Some-Some.ensures'.cases.0)
-
-pub returns-in-Some-None : goal.returns-in-Some-None
-returns-in-Some-None c =
-    the_only (return_end (cut (goal.at.returns-in-Some-None c).After-split_at) c.in-Some-None.text
-    (strip_suffix_is Decides-eqb _ (CR ∷ []) (Some c.in-Some-None.text) c.in-Some-None.ensures.cases) c.in-Some-None.ensures'.cases)
-
-pub returns-in-None-Some : goal.returns-in-None-Some
-returns-in-None-Some c =
-    the_only (plain_feed (cut (goal.at.returns-in-None-Some c).After-split_at) c.split_at.result.0 _ _ refl
-    (strip_suffix_is Decides-eqb _ (CR ∷ []) None c.in-None-Some.ensures.cases) c.in-None-Some.ensures'.cases.0)
-
-pub returns-in-None-None : goal.returns-in-None-None
-returns-in-None-None c =
-    the_only (plain_end (cut (goal.at.returns-in-None-None c).After-split_at) c.split_at.result.0 refl
-    (strip_suffix_is Decides-eqb _ (CR ∷ []) None c.in-None-None.ensures.cases) c.in-None-None.ensures'.cases)
+pub returns : goal.returns
+returns c =
+    let parts = cut (goal.at.returns c).After-split_at in
+    let First = λ (t : Bor (List ℕ) × Ending × Bor (List ℕ)). FirstLine c.args.book.now (record { text = t.0; ending = t.1 }) t.2.now in
+    let suffix = strip_suffix_is Decides-eqb c.split_at.result.0.now (CR ∷ []) in
+    the_only (elim c.match-strip_suffix.branch [
+      | in-Some-Some w ↦
+          let v = w.in-Some-Some in
+          subst First (sym w.ending-is) (first_cut parts _ _ (suffix (Some v.text) v.ensures.cases) (fed parts v.ensures'.cases.0) (inl tt) (λ f e. tt))
+      | in-Some-None w ↦
+          let v = w.in-Some-None in
+          subst First (sym w.ending-is) (first_cut parts _ _ (suffix (Some v.text) v.ensures.cases) refl (inr (nil_from_length _ v.ensures'.cases)) (λ f e. tt))
+      | in-None-Some w ↦
+          let v = w.in-None-Some in
+          subst First (sym w.ending-is) (first_cut parts _ _ (sym (append-nil _)) (fed parts v.ensures'.cases.0) (inl tt) (suffix None v.ensures.cases))
+      | in-None-None w ↦
+          let v = w.in-None-None in
+          subst First (sym w.ending-is) (first_cut parts _ _ (sym (append-nil _)) refl (inr (nil_from_length _ v.ensures'.cases)) (suffix None v.ensures.cases))
+    ])

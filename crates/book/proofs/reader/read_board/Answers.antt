@@ -1,26 +1,13 @@
-use Rattle.std.proofs.Common.{map, length, sym, ap, ◌∙◌, subst, arith}
-use Rattle.std.proofs.lemmas.List.{take_all}
+use Rattle.std.proofs.Common.{length, ◌∙◌, subst}
 use Rattle.std.proofs.lemmas.Result.{err_from_is_err_and}
 use Rattle.kayles.specs.Rows.{row}
 use Rattle.kayles.specs.Boards.{row_few}
 use Rattle.book.specs.BoardLines.{Wrong}
-use Rattle.book.specs.Letters.{letter}
-use Rattle.book.proofs.Spelling.{shown_more, first_wrong}
+use Rattle.book.proofs.Spelling.{first_wrong}
 use Rattle.book.proofs.reader.read_board.Goals as goal
-
-pub loop-at-init : goal.loop-at-init
-loop-at-init c = ap (map letter) (sym c.empty-board.ensures)
-
-pub loop-at-preserved : goal.loop-at-preserved
-loop-at-preserved c =
-    let more = c.in_ok-board.ensures.1 in
-    shown_more c.args.text.now c.loop-at.at (row c.loop-at.board) c.loop-at.invariant more.0 c.loop-at-test.true (sym c.board_token.ensures.byte ∙ more.1) ∙ ap (map letter) (sym more.2)
 
 pub returns-in_err-board : goal.returns-in_err-board
 returns-in_err-board c =
     let p = err_from_is_err_and c.from_residual.result c.from_residual.ensures.1 in
     let w = c.in_err-board.ensures in
     rw (p.1, p.2) (first_wrong c.args.text.now c.loop-at.at (row c.loop-at.board) c.loop-at.invariant _ c.args.skipped _ c.loop-at-test.true (row_few c.loop-at.board) (subst (λ b. Wrong (length (row c.loop-at.board)) b c.in_err-board.field-0.0.fault) c.board_token.ensures.byte w.0) (w.1 ∙ c.board_token.ensures.column))
-
-pub returns : goal.returns
-returns c = sym (take_all c.loop-at.at c.args.text.now (omega (arith, c.loop-at-test.false))) ∙ c.loop-at.invariant

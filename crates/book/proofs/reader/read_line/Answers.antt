@@ -16,9 +16,6 @@ tagged c =
     strip_prefix_is Decides-eqb c.args.line.now kayles_opening (Some c.in-Some.rest) c.in-Some.ensures.cases
     ∙ ap (λ l. kayles_opening ++ l) (strip_suffix_is Decides-eqb c.in-Some.rest.now closing (Some c.in-Some-strip_suffix.text) c.in-Some-strip_suffix.ensures.cases)
 
-pub returns-in_default : goal.returns-in_default
-returns-in_default c = reads _ _ (λ o. strip_prefix_is Decides-eqb c.args.line.now kayles_opening None c.in_default.ensures.cases o.0 o.1)
-
 pub returns-in_default-strip_suffix : goal.returns-in_default-strip_suffix
 returns-in_default-strip_suffix c =
     let head = strip_prefix_is Decides-eqb c.args.line.now kayles_opening (Some c.in-Some.rest) c.in-Some.ensures.cases in

@@ -1,21 +1,17 @@
-use Rattle.std.proofs.Common.{ℕ, ◌+◌, List, [], ◌∷◌, ◌++◌, take, string_bytes, codes, decimal, sym, refl, ap, ◌∙◌, subst}
-use Rattle.std.specs.List.{concat}
+use Rattle.std.proofs.Common.{ℕ, ◌+◌, List, [], ◌++◌, take, string_bytes, sym, refl, ap, ◌∙◌, subst}
 use Rattle.std.proofs.lemmas.List.{take_all}
 use Rattle.std.proofs.lemmas.Slice.{pushed}
-use Rattle.std.proofs.lemmas.Result.{IfOk-weaker}
 use Rattle.book.specs.Lines.{LinesOf}
 use Rattle.book.specs.Reports.{Report, TheReport, AllAnswered, none, too_long, answered}
 use Rattle.book.proofs.Answering.{answered_turn, same_report}
+use Rattle.book.proofs.Showing.{if_shown}
 use Rattle.book.proofs.report.proofread.Goals as goal
 
 the_report : (book out : List ℕ) → Report book out → TheReport book out
 the_report book out s = (s, λ other t. same_report book other out t s)
 
 pub returns-then-book-gt-BOOK_LIMIT : goal.returns-then-book-gt-BOOK_LIMIT
-returns-then-book-gt-BOOK_LIMIT c =
-    IfOk-weaker c.format.result _ (λ s. TheReport c.args.book.now (string_bytes s))
-    (λ s e. the_report _ _ (subst (Report c.args.book.now) (ap (λ k. concat (codes "book fault " ∷ decimal k ∷ codes "\n" ∷ [])) (sym c.number-number.ensures) ∙ sym e) (too_long c.if-book-gt-BOOK_LIMIT.true)))
-    c.format.ensures.ok
+returns-then-book-gt-BOOK_LIMIT c = if_shown (TheReport c.args.book.now) _ _ (the_report _ _ (too_long c.if-book-gt-BOOK_LIMIT.true)) c.format.ensures.ok
 
 pub loop-i-init : goal.loop-i-init
 loop-i-init c = subst (AllAnswered 1 []) (sym c.new-report.ensures.bytes) none
