@@ -2,13 +2,13 @@
 use Rattle.std.specs.Prelude.{◌≡◌, ℕ, ◌<◌, ◌≤◌, Bool, ◌⊎◌, ◌↔◌, List, ◌∷◌, Some, Ok, Err}
 use Rattle.search.specs.declared.call.Call.{Call}
 use Rattle.search.specs.declared.call.Call.TheVariants.{Query, Solve, Best, Wipe}
-use Rattle.search.specs.declared.call.CallError.TheVariants.{ShortTrail, GameOver}
+use Rattle.search.specs.declared.call.CallError.{CallError}
 use Rattle.search.specs.declared.call.Reply.TheVariants.{Answered, Solved, Chosen, Wiped}
 use Rattle.search.specs.declared.call.Answer.{Answer}
 use Rattle.search.specs.declared.call.Solution.{Solution}
 use Rattle.search.specs.declared.call.BestMove.{BestMove}
 use Rattle.search.specs.Bare.{Bare, bare, bare_best, bare_solve, bare_visits}
-use Rattle.search.specs.Calls.{Calls, Does, Outcome, UnaidedChoosing, UnaidedSolving, chosen, done, next, queried, refused, solved, wiped}
+use Rattle.search.specs.Calls.{Calls, Does, Outcome, UnaidedChoosing, UnaidedSolving, chosen, done, next, number, queried, refused, solved, wiped}
 use Rattle.search.specs.Games.{Ended, Legal, Live, Rules, most_points}
 use Rattle.search.specs.Minimax.{IsMove, Minimax, Says, move, worth}
 use Rattle.search.specs.Sets.{Sets, In}
@@ -86,12 +86,12 @@ module _ {P S X : Type 0} (R : Rules P) (Z : Sets P S) (D : Memory P S X) where
 
   -- The outcome is the right one for the call.
   pub data Right : Call P → Outcome → Type 0 where
-    -- with fewer trail cells than the height of the position it is refused for a short trail, which has the number 1
-    query_short : {p : P} {b cells : ℕ} → cells < R.height p → Right (Query p b cells) (Err ShortTrail)
-    solve_short : {p : P} {cells : ℕ} → cells < R.height p → Right (Solve p cells) (Err ShortTrail)
-    best_short : {p : P} {cells : ℕ} → cells < R.height p → Right (Best p cells) (Err ShortTrail)
-    -- with enough of them the best of an ended position is refused since the game is over, which has the number 10
-    best_over : {p : P} {cells : ℕ} → R.height p ≤ cells → Ended R p → Right (Best p cells) (Err GameOver)
+    -- with fewer trail cells than the height of the position it is refused with 1
+    query_short : {p : P} {b cells : ℕ} {e : CallError} → cells < R.height p → number e ≡ 1 → Right (Query p b cells) (Err e)
+    solve_short : {p : P} {cells : ℕ} {e : CallError} → cells < R.height p → number e ≡ 1 → Right (Solve p cells) (Err e)
+    best_short : {p : P} {cells : ℕ} {e : CallError} → cells < R.height p → number e ≡ 1 → Right (Best p cells) (Err e)
+    -- with enough of them the best of an ended position is refused with 10
+    best_over : {p : P} {cells : ℕ} {e : CallError} → R.height p ≤ cells → Ended R p → number e ≡ 10 → Right (Best p cells) (Err e)
     -- a query answers yes exactly if minimax makes the position worth at least the bound
     answers : {p : P} {b cells : ℕ} {r : Answer} → R.height p ≤ cells → Says r.yes b (worth R p) → Right (Query p b cells) (Ok (Answered r))
     -- a solve tells minimax's worth
