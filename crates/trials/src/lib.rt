@@ -7,7 +7,7 @@ mod boards;
 #[cfg(test)]
 mod tests {
     use book::{Ending, first_line, lines, proofread, read_line};
-    use kayles::{Board, Pin};
+    use kayles::{Board, Pin, Run};
     use search::{Bound, CallError, Game};
     use std::alloc::{AllocError, Global};
     use std::test::Fail;
@@ -114,9 +114,7 @@ mod tests {
     #[test]
     fn cutting_off_lines(rt: HostRuntime) -> Result<(), Fail> {
         assert!(rt; first_line(b"").is_none());
-        let Some((line, rest)) = first_line(b"a\r\r\n\nb") else {
-            return Err(Fail::new("no first line"));
-        };
+        let (line, rest) = first_line(b"a\r\r\n\nb").ok_or("no first line")?;
         assert!(rt; line.text == b"a\r".as_slice() && rest == b"\nb".as_slice());
         assert_eq!(rt; line.ending, Ending::ReturnFeed);
         let found = lines(rt.alloc(), b"a\r\r\n\nb")?;
@@ -146,9 +144,7 @@ mod tests {
     // The pins of an accepted board, by number; 0 and 6 are not on it.
     #[test]
     fn pins_of_a_board(rt: HostRuntime) -> Result<(), Fail> {
-        let Some(board) = shown(b"[Kayles \"X.XX.\"]") else {
-            return Err(Fail::new("no board"));
-        };
+        let board = shown(b"[Kayles \"X.XX.\"]").ok_or("no board")?;
         assert!(rt; board.len() == 5 && board.standing() == 3);
         assert!(rt; board.stands(1) && !board.stands(2) && board.stands(3) && board.stands(4));
         assert!(rt; !board.stands(0) && !board.stands(5) && !board.stands(6));
@@ -157,21 +153,15 @@ mod tests {
 
     #[test]
     fn runs_of_a_board(rt: HostRuntime) -> Result<(), Fail> {
-        let Some(one) = Board::empty().with(Pin::Standing) else {
-            return Err(Fail::new("full"));
-        };
+        let one = Board::empty().with(Pin::Standing).ok_or("full")?;
         assert!(rt; one.next_run(2).is_none());
-        let Some(run) = one.next_run(0) else {
-            return Err(Fail::new("no run"));
-        };
-        assert_eq!(rt; (run.first, run.len), (1, 1));
-        let Some(board) = shown(b"[Kayles \".XX.XXX\"]") else {
-            return Err(Fail::new("no board"));
-        };
-        let Some(run) = board.next_run(3) else {
-            return Err(Fail::new("no run"));
-        };
-        assert_eq!(rt; (run.first, run.len), (5, 3));
+        assert!(rt; one.next_run(0) == Some(Run { first: 1, len: 1 }));
+        let board = shown(b"[Kayles \".XX.XXX\"]").ok_or("no board")?;
+        assert!(rt; board.next_run(3) == Some(Run { first: 5, len: 3 }));
+        let mut runs = board.runs();
+        assert!(rt; runs.next() == Some(Run { first: 2, len: 2 }));
+        assert!(rt; runs.next() == Some(Run { first: 5, len: 3 }));
+        assert!(rt; runs.next().is_none());
         Ok(())
     }
 
@@ -194,9 +184,7 @@ mod tests {
         let blue = Stones::position(&[5, 1, 0, 0, 0]);
         assert!(rt; Stones::row(&red) == [5, 1, 1, 0, 0]);
         assert!(rt; Stones::after(&red, 2).is_none());
-        let Some(child) = Stones::after(&red, 1) else {
-            return Err(Fail::new("no move"));
-        };
+        let child = Stones::after(&red, 1).ok_or("no move")?;
         assert_eq!(rt; (child.gain, child.played), (2, 2));
         assert!(rt; Stones::row(&child.position) == [3, 0, 1, 0, 0]);
         let set = Stones::broad(&red);
