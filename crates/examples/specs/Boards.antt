@@ -1,5 +1,5 @@
 -- Small boards, the counting side to move.
-use Rattle.std.specs.Prelude.{true, List, [], ◌∷◌, ◌≡◌, T, leb, length, get_or}
+use Rattle.std.specs.Prelude.{true, List, [], ◌∷◌, ◌≡◌, T, leb, length, slice_index_or}
 use Rattle.std.proofs.Common.{leb→le}
 use Rattle.kayles.specs.declared.board.Pin.{Pin}
 use Rattle.kayles.specs.declared.board.Pin.TheVariants.{Standing, Down}
@@ -37,7 +37,7 @@ boardXX_XX = counting_side (Standing ∷ Standing ∷ Down ∷ Standing ∷ Stan
 
 -- the best move, as pin and number of pins
 abbrev pub best : Position → Knock
-best p = get_or (knocks_of p) (move kayles_rules p) no_knock
+best p = slice_index_or (knocks_of p) (move kayles_rules p) no_knock
 
 pub record BoardsRight : Type 0 where
   -- 1 is a win for the side to move, 0 a loss

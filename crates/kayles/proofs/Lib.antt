@@ -1,4 +1,3 @@
-pub mod Listing
 pub mod Masks
 pub mod Sorting
 pub mod Stretches

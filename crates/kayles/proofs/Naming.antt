@@ -1,16 +1,15 @@
 -- What the set of a position names, and who belongs to it.
-use Rattle.std.proofs.Common.{◌≡◌, ℕ, zero, suc, ◌-◌, ◌/◌, ◌%◌, ◌<◌, ◌≤◌, ◌⊎◌, List, [], ◌∷◌, sym, refl, ap, ◌∙◌, subst, inl, inr, arith}
+use Rattle.std.proofs.Common.{◌≡◌, ℕ, zero, suc, ◌-◌, ◌<◌, List, [], ◌∷◌, sym, refl, ap, ◌∙◌, subst, inl, inr, arith}
 use Rattle.std.proofs.lemmas.Bool.Decides.{nat_tests}
 use Rattle.std.proofs.lemmas.Bool.{cases_lt}
 use Rattle.kayles.specs.declared.board.Pin.{Pin}
 use Rattle.kayles.specs.declared.board.Pin.TheVariants.{Standing, Down}
 use Rattle.kayles.specs.declared.position.Position.{Position}
 use Rattle.kayles.specs.declared.runs.Run.{Run}
-use Rattle.kayles.specs.declared.tally.RunSet.{RunSet}
 use Rattle.kayles.specs.Boards.{row_few}
 use Rattle.kayles.specs.Kayles.{AsManyRuns, Describes, kayles_sets, pins_of, set_of}
 use Rattle.kayles.specs.Limits.{most_pins}
-use Rattle.kayles.specs.Tallies.{HasRuns, all_runs, closed, how_many, named, radix, runs_from, unit}
+use Rattle.kayles.specs.Tallies.{HasRuns, all_runs, closed, how_many, named, runs_from, unit}
 use Rattle.kayles.specs.Laws.Digits.{place_pos, sum_ext}
 use Rattle.kayles.specs.Laws.{has_key, own, runs_set, set_runs}
 use Rattle.kayles.proofs.Sorting.{same_runs}
@@ -75,11 +74,3 @@ described p = record {
 
 pub unit_above : (n : ℕ) → 0 < n → 0 < unit n - n
 unit_above n h = omega (arith, unit_is n h, place_pos (n - 1))
-
-pub read_digit : (s : RunSet) (n u : ℕ) → 0 < n → n ≤ most_pins → u ≡ unit n → s.word / (u - n) % radix n ≡ named s n
-read_digit s zero u a b e = absurd (omega arith)
-read_digit s (suc n) u a b e = grind (arith, nat_tests)
-
-pub read_none : (s : RunSet) (n : ℕ) → (n ≡ 0) ⊎ (most_pins < n) → 0 ≡ named s n
-read_none s zero d = refl
-read_none s (suc n) d = grind (arith, nat_tests)

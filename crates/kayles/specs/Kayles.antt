@@ -1,5 +1,5 @@
 -- Kayles as a game, and its sets.
-use Rattle.std.specs.Prelude.{◌≡◌, ℕ, suc, ◌%◌, ◌^◌, ◌<◌, ◌≤◌, min, cond, not, ◌&&◌, ◌↔◌, List, [], ◌∷◌, length, ◌==◌, slice_index, slice_index_or}
+use Rattle.std.specs.Prelude.{◌≡◌, ℕ, suc, ◌%◌, ◌^◌, ◌<◌, ◌≤◌, min, if◌then◌else◌, not, ◌&&◌, ◌↔◌, List, [], ◌∷◌, length, ◌==◌, slice_index, slice_index_or}
 use Rattle.std.specs.Bool.{beq}
 use Rattle.std.proofs.Common.{mod-lt, arith, pow_pos}
 use Rattle.kayles.specs.declared.board.Board.{Board}
@@ -37,7 +37,7 @@ played p k = record { board = board_of (left_by k (pins_of p)) (left_few p k); c
 
 -- a position as plain words
 abbrev pub words_of : Position → List ℕ
-words_of p = p.board.count ∷ p.board.standing ∷ cond p.counting 1 0 ∷ 0 ∷ 0 ∷ []
+words_of p = p.board.count ∷ p.board.standing ∷ (if p.counting then 1 else 0) ∷ 0 ∷ 0 ∷ []
 
 -- what a board's type asks of a count and a mask that are cut to fit
 pub held : (n : ℕ) → min n most_pins ≤ most_pins
@@ -62,7 +62,7 @@ kayles_rules = record {
   moves = λ p. length (knocks_of p);
   gain = λ p m. 0;
   after = λ p m. played p (knock_of p m);
-  score = λ p. cond (length (knocks_of p) == 0 && not p.counting) 1 0;
+  score = λ p. if length (knocks_of p) == 0 && not p.counting then 1 else 0;
   top = λ p. 1;
   height = λ p. upright (pins_of p);
   row = words_of;

@@ -1,5 +1,5 @@
 -- The moves on a row of pins, their numbers, and what they leave.
-use Rattle.std.specs.Prelude.{◌≡◌, ℕ, zero, suc, ◌+◌, ◌-◌, ◌<◌, ◌≤◌, Bool, true, false, cond, ◌⊎◌, List, [], ◌∷◌, length, slice_index_or, refl}
+use Rattle.std.specs.Prelude.{◌≡◌, ℕ, zero, suc, ◌+◌, ◌-◌, ◌<◌, ◌≤◌, Bool, true, false, if◌then◌else◌, ◌⊎◌, List, [], ◌∷◌, length, slice_index_or, refl}
 use Rattle.std.proofs.Common.{arith}
 use Rattle.kayles.specs.declared.board.Pin.{Pin}
 use Rattle.kayles.specs.declared.board.Pin.TheVariants.{Standing, Down}
@@ -49,7 +49,7 @@ taking i n = record { pin = i; pins = n }
 
 -- that move, if the n pins stand, before the other moves; ps begins with pin i
 unfoldable pub offered : ℕ → ℕ → List Pin → List Knock → List Knock
-offered i n ps ks = cond (front n ps) (taking i n ∷ ks) ks
+offered i n ps ks = if front n ps then taking i n ∷ ks else ks
 
 -- the moves on a row that begins with pin i
 unfoldable pub knocks_from : ℕ → List Pin → List Knock

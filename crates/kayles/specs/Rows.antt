@@ -1,12 +1,12 @@
 -- A row of pins, and the row that a board stands for.
-use Rattle.std.specs.Prelude.{◌≡◌, ℕ, zero, suc, ◌+◌, ◌/◌, ◌%◌, cond, List, [], ◌∷◌, ◌==◌, slice_index_or}
+use Rattle.std.specs.Prelude.{◌≡◌, ℕ, zero, suc, ◌+◌, ◌/◌, ◌%◌, if◌then◌else◌, List, [], ◌∷◌, ◌==◌, slice_index_or}
 use Rattle.kayles.specs.declared.board.Board.{Board}
 use Rattle.kayles.specs.declared.board.Pin.{Pin}
 use Rattle.kayles.specs.declared.board.Pin.TheVariants.{Standing, Down}
 
 -- a pin stands where its bit is 1
 abbrev pub pin_of : ℕ → Pin
-pin_of bit = cond (bit == 1) Standing Down
+pin_of bit = if bit == 1 then Standing else Down
 
 -- and its bit is 1 where it stands
 abbrev pub bit : Pin → ℕ

@@ -1,5 +1,5 @@
 -- The runs of a row.
-use Rattle.std.specs.Prelude.{◌≡◌, ℕ, ◌+◌, ◌-◌, ◌<◌, ◌≤◌, List, length, get_or, slice_index_or}
+use Rattle.std.specs.Prelude.{◌≡◌, ℕ, ◌+◌, ◌-◌, ◌<◌, ◌≤◌, List, length, slice_index_or}
 use Rattle.kayles.specs.declared.board.Pin.{Pin}
 use Rattle.kayles.specs.declared.runs.Run.{Run}
 use Rattle.kayles.specs.Rows.{Stands}
@@ -28,5 +28,5 @@ no_run = record { first = 0; len = 0 }
 -- rs lists the runs of the row from the left: only runs, in order, and all of them
 pub record RunsOf (ps : List Pin) (rs : List Run) : Type 0 where
   pub each : (k : ℕ) → k < length rs → IsRun ps (slice_index_or rs k no_run)
-  pub order : (j k : ℕ) → j < k → k < length rs → (get_or rs j no_run).first < (get_or rs k no_run).first
+  pub order : (j k : ℕ) → j < k → k < length rs → (slice_index_or rs j no_run).first < (slice_index_or rs k no_run).first
   pub all : (r : Run) → IsRun ps r → (k : ℕ) × (k < length rs) × (slice_index_or rs k no_run ≡ r)

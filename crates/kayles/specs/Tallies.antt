@@ -1,5 +1,5 @@
 -- The runs of a row listed, how many there are of each length, and the word that a set keeps of these numbers.
-use Rattle.std.specs.Prelude.{◌≡◌, ℕ, zero, suc, ◌+◌, ◌-◌, ◌*◌, ◌/◌, ◌%◌, cond, List, [], ◌∷◌, ◌==◌, nat_lt}
+use Rattle.std.specs.Prelude.{◌≡◌, ℕ, zero, suc, ◌+◌, ◌-◌, ◌*◌, ◌/◌, ◌%◌, if◌then◌else◌, List, [], ◌∷◌, ◌==◌, nat_lt}
 use Rattle.kayles.specs.declared.board.Pin.{Pin}
 use Rattle.kayles.specs.declared.board.Pin.TheVariants.{Standing, Down}
 use Rattle.kayles.specs.declared.runs.Run.{Run}
@@ -31,7 +31,7 @@ runs_left s = all_runs (row s.left)
 -- how many of the runs have x pins
 unfoldable pub how_many : ℕ → List Run → ℕ
 how_many x [] = 0
-how_many x (r ∷ rs) = cond (r.len == x) 1 0 + how_many x rs
+how_many x (r ∷ rs) = (if r.len == x then 1 else 0) + how_many x rs
 
 -- n is how many runs of x pins the row has
 abbrev pub HasRuns : List Pin → ℕ → ℕ → Type 0
@@ -69,7 +69,7 @@ word_of (r ∷ rs) = unit r.len + word_of rs
 -- how many runs of x pins the set names; there are none of no pins, and none of more than 32
 abbrev pub named : RunSet → ℕ → ℕ
 named s zero = 0
-named s (suc n) = cond (nat_lt n most_pins) (s.word / (room * place n) % radix (suc n)) 0
+named s (suc n) = if nat_lt n most_pins then s.word / (room * place n) % radix (suc n) else 0
 
 -- how many standing pins it names
 abbrev pub pins_named : RunSet → ℕ

@@ -1,5 +1,5 @@
 -- Small piles: what they are worth, their moves, and the visits of the bare search.
-use Rattle.std.specs.Prelude.{◌≡◌, ℕ, ◌^◌, Bool, true, false, cond, [], ◌∷◌, Some, None}
+use Rattle.std.specs.Prelude.{◌≡◌, ℕ, ◌^◌, Bool, true, false, if◌then◌else◌, [], ◌∷◌, Some, None}
 use Rattle.stones.specs.declared.pile.Pile.{Pile}
 use Rattle.stones.specs.Piles.{rules_of_play}
 use Rattle.search.specs.declared.call.Call.TheVariants.{Query, Solve, Best}
@@ -11,7 +11,7 @@ use Rattle.search.specs.Visits.{capped}
 
 -- A red pile of n stones, where the counting side (true) or the other is to move.
 abbrev pub pile : ℕ → Bool → Pile
-pile n c = rules_of_play.position (n ∷ cond c 1 0 ∷ 1 ∷ 0 ∷ 0 ∷ [])
+pile n c = rules_of_play.position (n ∷ (if c then 1 else 0) ∷ 1 ∷ 0 ∷ 0 ∷ [])
 
 pub record Examples : Type 0 where
   -- one stone is the taker's; of four the counting side gets two, of six four, and of five it gets two when the other side begins

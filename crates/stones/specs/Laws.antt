@@ -1,9 +1,10 @@
 -- The game of stones keeps the laws of games and of sets.
-use Rattle.std.specs.Prelude.{◌≡◌, ℕ, ◌+◌, ◌-◌, ◌<◌, ◌≤◌, min, Bool, true, false, cond, not, ◌==◌, refl}
+use Rattle.std.specs.Prelude.{◌≡◌, ℕ, ◌-◌, ◌≤◌, Bool, if◌then◌else◌, not, ◌==◌, refl}
 use Rattle.std.proofs.Common.{sym, ap, ap₂, arith}
 use Rattle.std.specs.Bool.{beq}
 use Rattle.std.specs.Cmp.{booleans_Decides}
-use Rattle.std.proofs.lemmas.Bool.{and_from, and_parts, eq-eqb, eqb-true}
+use Rattle.std.proofs.lemmas.Bool.Decides.{nat_tests}
+use Rattle.std.proofs.lemmas.Bool.{and_parts, eqb-true}
 use mathlib.Core.HLevel.{is_prop→PathP}
 use Rattle.std.proofs.Math.Bridge.{le_prop}
 use Rattle.stones.specs.declared.pile.PileSet.{PileSet}
@@ -18,24 +19,16 @@ use Rattle.search.proofs.SetsByKey.{ByKey, laws_by_key}
 pub same_pile : (p q : Pile) → p.stones ≡ q.stones → p.counting ≡ q.counting → p.red ≡ q.red → p ≡ q
 same_pile p q es ec er = λ i. record { stones = es i; counting = ec i; red = er i; few = is_prop→PathP (λ i. es i ≤ most_stones) (λ i. le_prop) p.few q.few i }
 
-gain_fits : (c : Bool) (n m : ℕ) → m < min n 2 → cond c (taken m) 0 + (n - taken m) ≤ n
-gain_fits true n m h = omega arith
-gain_fits false n m h = omega arith
-
-bit_back : (c : Bool) → (cond c 1 0 == 1) ≡ c
-bit_back true = refl
-bit_back false = refl
-
 pub game_laws : GameLaws rules_of_play
 game_laws = record {
   falls = λ p m h. omega arith;
   score_top = λ p e. omega arith;
-  gain_top = λ p m h. gain_fits p.counting p.stones m h;
+  gain_top = λ p m h. grind (arith, nat_tests);
   no_score = λ p l. refl;
   few_moves = λ p. omega arith;
   low_top = λ p. let h = p.few in omega arith;
   low_height = λ p. let h = p.few in omega arith;
-  row_back = λ p. same_pile _ p (let h = p.few in omega arith) (bit_back p.counting) (bit_back p.red);
+  row_back = λ p. same_pile _ p (let h = p.few in omega arith) (grind (arith, nat_tests)) (grind (arith, nat_tests));
 }
 
 -- A set is told by its size and its side to move.
@@ -50,7 +43,7 @@ has_key s q i =
 -- After the same move, piles of one size and side to move are again of one size and side to move.
 by_size_and_side : ByKey rules_of_play sets_of_piles alike
 by_size_and_side = record {
-  own = λ p. and_from _ _ (eq-eqb p.stones p.stones refl) ((booleans_Decides p.counting p.counting).1 refl);
+  own = λ p. grind (arith, nat_tests, (booleans_Decides p.counting p.counting).1 refl);
   is_key = has_key;
   broad = λ p. refl;
   pull = λ p m t. refl;
@@ -62,7 +55,7 @@ by_size_and_side = record {
   follow = λ p q e m h.
       let n : p.stones ≡ q.stones = ap (λ s. s.stones) e in
       let c : p.counting ≡ q.counting = ap (λ s. s.counting) e in
-      (m, omega arith, ap (λ c. cond c (taken m) 0) (sym c), same_set (ap (λ n. n - taken m) n) (ap not c));
+      (m, omega arith, ap (λ c. if c then taken m else 0) (sym c), same_set (ap (λ n. n - taken m) n) (ap not c));
 }
 
 pub set_laws : SetLaws rules_of_play sets_of_piles

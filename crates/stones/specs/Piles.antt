@@ -1,5 +1,5 @@
 -- A small game, to try the search on: piles of stones.
-use Rattle.std.specs.Prelude.{ℕ, ◌+◌, ◌-◌, ◌≤◌, min, cond, not, ◌&&◌, [], ◌∷◌, ◌==◌, slice_index}
+use Rattle.std.specs.Prelude.{ℕ, ◌+◌, ◌-◌, ◌≤◌, min, if◌then◌else◌, not, ◌&&◌, [], ◌∷◌, ◌==◌, slice_index}
 use Rattle.std.specs.Bool.{beq}
 use Rattle.std.proofs.Common.{arith}
 use Rattle.stones.specs.Limits.{most_stones}
@@ -29,12 +29,12 @@ abbrev pub rules_of_play : Rules Pile
 rules_of_play = record {
   counting = λ p. p.counting;
   moves = λ p. min p.stones 2;
-  gain = λ p m. cond p.counting (taken m) 0;
+  gain = λ p m. if p.counting then taken m else 0;
   after = λ p m. less p (taken m);
   score = λ p. 0;
   top = λ p. p.stones;
   height = λ p. p.stones;
-  row = λ p. p.stones ∷ cond p.counting 1 0 ∷ cond p.red 1 0 ∷ 0 ∷ 0 ∷ [];
+  row = λ p. p.stones ∷ (if p.counting then 1 else 0) ∷ (if p.red then 1 else 0) ∷ 0 ∷ 0 ∷ [];
   position = λ r. record { stones = min (slice_index r 0) most_stones; counting = (slice_index r 1 == 1); red = (slice_index r 2 == 1); few = at_most (slice_index r 0) };
 }
 

@@ -1,5 +1,5 @@
 -- The list of the moves on a row, by the pins that they take.
-use Rattle.std.specs.Prelude.{◌≡◌, ℕ, zero, suc, ◌+◌, ◌<◌, Bool, true, false, cond, T, List, [], ◌∷◌, length, slice_index_or}
+use Rattle.std.specs.Prelude.{◌≡◌, ℕ, zero, suc, ◌+◌, ◌<◌, Bool, true, false, if◌then◌else◌, T, List, [], ◌∷◌, length, slice_index_or}
 use Rattle.std.proofs.Common.{ap, ◌∙◌, arith}
 use Rattle.kayles.specs.declared.board.Pin.{Pin}
 use Rattle.kayles.specs.declared.position.Knock.{Knock}
@@ -18,7 +18,7 @@ pub offered_each : (P : Knock → Type 0) (i n : ℕ) (ps : List Pin) (ks : List
 unfolding offered
 offered_each P i n ps ks h g = go (front n ps) h
   where
-    go : (c : Bool) → (T c → P (taking i n)) → (m : ℕ) → m < length (cond c (taking i n ∷ ks) ks) → P (slice_index_or (cond c (taking i n ∷ ks) ks) m no_knock)
+    go : (c : Bool) → (T c → P (taking i n)) → (m : ℕ) → m < length (if c then taking i n ∷ ks else ks) → P (slice_index_or (if c then taking i n ∷ ks else ks) m no_knock)
     go true h zero l = h tt
     go true h (suc m) l = g m (omega arith)
     go false h m l = g m l
@@ -27,7 +27,7 @@ offered_here : (i n k : ℕ) (ps : List Pin) (ks : List Knock) → i ≡ k → T
 unfolding offered
 offered_here i n k ps ks e t = go (front n ps) t
   where
-    go : (c : Bool) → T c → Has (cond c (taking i n ∷ ks) ks) (taking k n)
+    go : (c : Bool) → T c → Has (if c then taking i n ∷ ks else ks) (taking k n)
     go true t = (0, omega arith, ap (λ k. taking k n) e)
     go false t = absurd t
 
@@ -35,7 +35,7 @@ offered_keeps : (i n : ℕ) (ps : List Pin) (ks : List Knock) (k : Knock) → Ha
 unfolding offered
 offered_keeps i n ps ks k h = go (front n ps)
   where
-    go : (c : Bool) → Has (cond c (taking i n ∷ ks) ks) k
+    go : (c : Bool) → Has (if c then taking i n ∷ ks else ks) k
     go true = (suc h.0, omega (arith, h.1), h.2)
     go false = h
 

@@ -1,5 +1,5 @@
 -- A move splits a run in two, and rows with as many runs of each length can be split alike.
-use Rattle.std.specs.Prelude.{◌≡◌, ℕ, zero, suc, ◌+◌, ◌-◌, ◌*◌, ◌<◌, ◌≤◌, Bool, false, cond, T, ◌≢◌, ◌⊎◌, List, [], ◌∷◌, length, ◌==◌}
+use Rattle.std.specs.Prelude.{◌≡◌, ℕ, zero, suc, ◌+◌, ◌-◌, ◌*◌, ◌<◌, ◌≤◌, Bool, false, if◌then◌else◌, T, ◌≢◌, ◌⊎◌, List, [], ◌∷◌, length, ◌==◌}
 use Rattle.std.proofs.Common.{inl, inr, add-mul, arith}
 use Rattle.std.proofs.lemmas.Bool.{cases_eq}
 use Rattle.std.proofs.lemmas.Bool.Decides.{nat_tests}
@@ -10,7 +10,7 @@ use Rattle.kayles.specs.Rows.{upright}
 
 -- 1 where x is y, else 0
 unfoldable pub one : ℕ → ℕ → ℕ
-one x y = cond (y == x) 1 0
+one x y = if y == x then 1 else 0
 
 -- how many runs of x pins there are, where r pins stand just before
 unfoldable pub counted : ℕ → ℕ → List Pin → ℕ
