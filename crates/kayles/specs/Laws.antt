@@ -119,6 +119,6 @@ set_laws = laws_by_key {key = set_of} (record {
   low_weight = λ s. omega arith;
   side = λ p q e. ap (λ s. s.counting) (sym e);
   top = λ p q e. refl;
-  score = λ p q e. grind (arith, nat_tests, follows p q e 0, follows q p (sym e) 0, ap (λ s. s.counting) e);
+  score = λ p q e h k. grind (arith, nat_tests, ap (λ s. s.counting) e);
   follow = λ p q e m h. let f = follows p q e m h in (f.0, f.1, refl, f.2);
 })

@@ -8,7 +8,7 @@ ghost use Rattle.kayles.specs.Tallies.{all_runs, runs_left};
 use crate::board::Board;
 
 // A run: `len` pins from pin `first` on, counted from 1.
-#[derive(Clone, Copy, PartialEq, Eq)]
+#[derive(Clone, Copy, PartialEq, Eq, Debug)]
 pub struct Run {
     pub first: u8,
     pub len: u8,

@@ -15,7 +15,7 @@ pub record ByKey {P S : Type 0} (R : Rules P) (Z : Sets P S) (key : P → S) : T
   pub low_weight : (s : S) → Z.weight s ≤ most_points
   pub side : (p q : P) → key p ≡ key q → R.counting q ≡ R.counting p
   pub top : (p q : P) → key p ≡ key q → R.top q ≡ R.top p
-  pub score : (p q : P) → key p ≡ key q → R.score q ≡ R.score p
+  pub score : (p q : P) → key p ≡ key q → Ended R p → Ended R q → R.score q ≡ R.score p
   -- each move of the one has a move of the other with its gain, after which they have one key again
   pub follow : (p q : P) → key p ≡ key q → (m : ℕ) → Legal R p m → (n : ℕ) × Legal R q n × (R.gain q n ≡ R.gain p m) × (key (R.after p m) ≡ key (R.after q n))
 
@@ -43,7 +43,7 @@ module _ {P S : Type 0} {R : Rules P} {Z : Sets P S} {key : P → S} (k : ByKey 
   laws_by_key = record {
     broad_own = λ p. subst (λ s. In Z s p) (sym (k.broad p)) (k.own p);
     broad_top = λ p q i. k.top p q (alike p q (subst (λ s. In Z s q) (k.broad p) i));
-    broad_end = λ p q i e. let a = alike p q (subst (λ s. In Z s q) (k.broad p) i) in (ended p q a e, k.score p q a);
+    broad_end = λ p q i e. let a = alike p q (subst (λ s. In Z s q) (k.broad p) i) in let d = ended p q a e in (d, k.score p q a e d);
     pull_own = λ p m t h i. subst (λ s. In Z s p) (sym (k.pull p m t)) (k.own p);
     pull_all = λ p m t h i q j.
         let a = alike p q (subst (λ s. In Z s q) (k.pull p m t) j) in

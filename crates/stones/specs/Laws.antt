@@ -13,7 +13,7 @@ use Rattle.stones.specs.Limits.{most_stones}
 use Rattle.stones.specs.Piles.{alike, rules_of_play, sets_of_piles, taken}
 use Rattle.search.specs.Games.{GameLaws}
 use Rattle.search.specs.Sets.{In, SetLaws}
-use Rattle.search.proofs.SetsByKey.{ByKey, laws_by_key}
+use Rattle.search.proofs.SetsByKey.{laws_by_key}
 
 -- Piles are the same where what they hold is.
 pub same_pile : (p q : Pile) → p.stones ≡ q.stones → p.counting ≡ q.counting → p.red ≡ q.red → p ≡ q
@@ -41,8 +41,8 @@ has_key s q i =
     same_set (eqb-true s.stones q.stones b.0) ((booleans_Decides s.counting q.counting).0 b.1)
 
 -- After the same move, piles of one size and side to move are again of one size and side to move.
-by_size_and_side : ByKey rules_of_play sets_of_piles alike
-by_size_and_side = record {
+pub set_laws : SetLaws rules_of_play sets_of_piles
+set_laws = laws_by_key {key = alike} (record {
   own = λ p. grind (arith, nat_tests, (booleans_Decides p.counting p.counting).1 refl);
   is_key = has_key;
   broad = λ p. refl;
@@ -51,12 +51,9 @@ by_size_and_side = record {
   low_weight = λ s. omega arith;
   side = λ p q e. ap (λ s. s.counting) (sym e);
   top = λ p q e. ap (λ s. s.stones) (sym e);
-  score = λ p q e. refl;
+  score = λ p q e h k. refl;
   follow = λ p q e m h.
       let n : p.stones ≡ q.stones = ap (λ s. s.stones) e in
       let c : p.counting ≡ q.counting = ap (λ s. s.counting) e in
       (m, omega arith, ap (λ c. if c then taken m else 0) (sym c), same_set (ap (λ n. n - taken m) n) (ap not c));
-}
-
-pub set_laws : SetLaws rules_of_play sets_of_piles
-set_laws = laws_by_key by_size_and_side
+})

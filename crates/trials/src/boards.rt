@@ -169,7 +169,7 @@ fn moves_of_a_board(rt: HostRuntime) -> Result<(), Fail> {
     // X.XX: pin 1, pin 3, pins 3 and 4, pin 4
     let board = board(4, 0b1101).ok_or("no board")?;
     for (number, pin, pins) in [(0, 1, 1), (1, 3, 1), (2, 3, 2), (3, 4, 1)] {
-        assert!(rt; board.knock(number) == Some(Knock { pin, pins }));
+        assert_eq!(rt; board.knock(number), Some(Knock { pin, pins }));
     }
     assert!(rt; board.knock(4).is_none() && board.knock(255).is_none());
     Ok(())

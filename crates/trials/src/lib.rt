@@ -155,12 +155,12 @@ mod tests {
     fn runs_of_a_board(rt: HostRuntime) -> Result<(), Fail> {
         let one = Board::empty().with(Pin::Standing).ok_or("full")?;
         assert!(rt; one.next_run(2).is_none());
-        assert!(rt; one.next_run(0) == Some(Run { first: 1, len: 1 }));
+        assert_eq!(rt; one.next_run(0), Some(Run { first: 1, len: 1 }));
         let board = shown(b"[Kayles \".XX.XXX\"]").ok_or("no board")?;
-        assert!(rt; board.next_run(3) == Some(Run { first: 5, len: 3 }));
+        assert_eq!(rt; board.next_run(3), Some(Run { first: 5, len: 3 }));
         let mut runs = board.runs();
-        assert!(rt; runs.next() == Some(Run { first: 2, len: 2 }));
-        assert!(rt; runs.next() == Some(Run { first: 5, len: 3 }));
+        assert_eq!(rt; runs.next(), Some(Run { first: 2, len: 2 }));
+        assert_eq!(rt; runs.next(), Some(Run { first: 5, len: 3 }));
         assert!(rt; runs.next().is_none());
         Ok(())
     }
