@@ -56,9 +56,7 @@ impl Game for Kayles {
         ensures child { MatchOption result (kayles_rules.moves p.now ≤ m) (IsChild kayles_rules knock_of p.now m) }
         ensures plays { MatchOption result (Unnumbered (pins_of p.now) m) (Plays p.now m) }
     {
-        let Some(played) = p.board.knock(m) else {
-            return None;
-        };
+        let played = p.board.knock(m)?;
         Some(Child {
             position: Position {
                 board: p.board.without(played),
