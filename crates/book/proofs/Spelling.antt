@@ -1,7 +1,6 @@
 -- A board's text, read from the left.
 use Rattle.std.proofs.Common.{◌≡◌, ℕ, ◌+◌, ◌<◌, ◌≤◌, List, [], ◌∷◌, map, length, get_or, take, sym, refl, ap, ◌∙◌, subst, ap₂, arith}
-use lib.ListN.{length-map}
-use Rattle.std.proofs.lemmas.List.{length-take-le, get_or-take, get_or-map}
+use Rattle.std.proofs.lemmas.List.{length-take-le, get_or-take, get_or-map, length-map}
 use Rattle.kayles.specs.declared.board.Pin.{Pin}
 use Rattle.kayles.specs.declared.board.Pin.TheVariants.{Standing, Down}
 use Rattle.book.specs.declared.fault.Fault.{Fault}

@@ -1,6 +1,6 @@
 -- What a mask says of its pins.
 use Rattle.std.specs.Prelude.{◌≡◌, ℕ, zero, suc, ◌+◌, ◌*◌, ◌/◌, ◌%◌, ◌^◌, ◌<◌, Bool, true, false, cond, [], ◌∷◌, ◌++◌, slice_index_or, refl}
-use Rattle.std.proofs.Common.{ap, ap₂, ◌∙◌, add-one, arith, mul-le-mul_right, pow-suc, shl_exact, shr-shr}
+use Rattle.std.proofs.Common.{ap, ap₂, ◌∙◌, add-one, arith, mul-le-mul_right, pow-suc, pow_mono, shl_exact, shr-shr}
 use Rattle.std.proofs.lemmas.Bool.Decides.{nat_tests}
 use Rattle.std.specs.Int.Bits.{bit_or, or_shifted_r}
 use Rattle.std.specs.Int.Count.{ones, ones_step}
@@ -9,6 +9,10 @@ use Rattle.kayles.specs.declared.board.Pin.{Pin}
 use Rattle.kayles.specs.declared.board.Pin.TheVariants.{Standing, Down}
 use Rattle.kayles.specs.Limits.{most_pins}
 use Rattle.kayles.specs.Rows.{bit, pin_of, pins, row, upright}
+
+-- a board's mask fits its word
+pub low_mask : (b : Board) → b.standing < 2 ^ 32
+low_mask b = omega (arith, b.within, pow_mono {i = b.count} {j = 32} b.few)
 
 -- a pin more at the right is a bit more at the top
 pub pins_more : (n m : ℕ) (p : Pin) → m < 2 ^ n → pins (suc n) (m + bit p * 2 ^ n) ≡ pins n m ++ p ∷ []

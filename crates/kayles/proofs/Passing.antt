@@ -11,6 +11,7 @@ use Rattle.kayles.specs.declared.board.Pin.TheVariants.{Standing, Down}
 use Rattle.kayles.specs.declared.runs.Run.{Run}
 use Rattle.kayles.specs.Rows.{pin_of, pins, row}
 use Rattle.kayles.specs.Tallies.{all_runs, closed, runs_from}
+use Rattle.kayles.proofs.Masks.{low_mask}
 
 -- the first n pins of a mask, and then the others
 pins_append : (n k m : ℕ) → pins (n + k) m ≡ pins n m ++ pins k (m / 2 ^ n)
@@ -99,7 +100,7 @@ module _ (b : Board) (some : b.standing ≡ 0 → ⊥) where
   u = trailing_ones w64 up
 
   low : b.standing < 2 ^ 32
-  low = omega (arith, b.within, pow_mono {i = b.count} {j = 32} b.few)
+  low = low_mask b
 
   downs : (z < 64) × (bit_at b.standing z ≡ 1) × ((i : ℕ) → i < z → bit_at b.standing i ≡ 0)
   downs = bit_at-trailing_zeros w64 b.standing (omega arith) (omega (arith, low))

@@ -1,13 +1,12 @@
 -- Moves on the mask: which can be made, how many there are, and what they leave.
 use Rattle.std.proofs.Common.{◌≡◌, ℕ, zero, suc, ◌+◌, ◌-◌, ◌*◌, ◌/◌, ◌%◌, ◌^◌, ◌<◌, ◌≤◌, cond, T, eqb, List, [], ◌∷◌, length, refl, ap, ◌∙◌, subst, add-mul, mod-eq_of_lt, pow-suc, arith, pow_pos, pow_mono, shr-shr}
-use native.Mathlib.Nat.{mod-one, zero-mod}
-use lib.Bits.{and_mask, and_step, bit_and}
-use lib.Count.{ones, ones_step}
-use lib.Pow.{mod-pow-add}
+use Rattle.std.specs.Int.Count.{ones, ones_step}
+use Rattle.std.specs.Int.Bits.{and_step, bit_and}
+use Rattle.std.proofs.Math.Nat.{mod-one, zero-mod}
 use Rattle.std.specs.Bool.{Decides}
 use Rattle.std.proofs.lemmas.Bool.{cond_both, eq-eqb, eqb-false, eqb-true}
 use Rattle.std.proofs.lemmas.Bool.Decides.{nat_tests}
-use Rattle.std.proofs.lemmas.Nat.{and-not, and_comm, and_le_l, and_shr, pow-add}
+use Rattle.std.proofs.lemmas.Nat.{and-not, and_comm, and_le_l, and_shr, pow-add, and_mask, mod-pow-add}
 use Rattle.std.proofs.lemmas.Nat.Bits.{and_high}
 use Rattle.kayles.specs.declared.board.Board.{Board}
 use Rattle.kayles.specs.declared.board.Pin.{Pin}
@@ -16,7 +15,7 @@ use Rattle.kayles.specs.declared.position.Knock.{Knock}
 use Rattle.kayles.specs.Boards.{length-pins}
 use Rattle.kayles.specs.Play.{IsKnock, fallen, fallen_after, front, knocks, knocks_from, left_by, offered, taking}
 use Rattle.kayles.specs.Rows.{pin_of, pins, row, upright}
-use Rattle.kayles.proofs.Masks.{upright_pins}
+use Rattle.kayles.proofs.Masks.{low_mask, upright_pins}
 use Rattle.kayles.proofs.Numbering.{knock_up, up_knock}
 use Rattle.kayles.specs.Laws.Splitting.{up_after}
 
@@ -157,9 +156,6 @@ up_in zero (suc n) [] h t = absurd t
 up_in (suc i) n [] h t = absurd t
 up_in zero n (p ∷ ps) h t = omega arith
 up_in (suc i) n (p ∷ ps) h t = omega (arith, up_in i n ps h t)
-
-low_mask : (b : Board) → b.standing < 4294967296
-low_mask b = omega (arith, b.within, pow_mono {i = b.count} {j = 32} b.few)
 
 -- the move that the code takes off the mask
 module _ (b : Board) (k : Knock) (is : IsKnock (row b) k) where

@@ -28,10 +28,10 @@ upright [] = 0
 upright (Standing ∷ ps) = 1 + upright ps
 upright (Down ∷ ps) = upright ps
 
--- pin k stands, counted from 1; there is no pin 0 and none past the row's end
-abbrev pub Stands : List Pin → ℕ → Type 0
-Stands ps k = slice_index_or (Down ∷ ps) k Down ≡ Standing
-
--- pin k, counted from 1; where there is no such pin it reads as one that is down
+-- pin k, counted from 1; there is no pin 0 and none past the row's end, and there it reads as one that is down
 abbrev pub nth_pin : List Pin → ℕ → Pin
 nth_pin ps k = slice_index_or (Down ∷ ps) k Down
+
+-- pin k stands
+abbrev pub Stands : List Pin → ℕ → Type 0
+Stands ps k = nth_pin ps k ≡ Standing

@@ -15,7 +15,7 @@ pub struct Run {
 }
 
 // The runs of a board, from the left, as `Board::runs` gives them.
-#[derive(Clone, Copy)]
+#[derive(Clone, Drop)]
 pub struct Runs {
     // The board with the runs that were given taken off.
     left: Board,

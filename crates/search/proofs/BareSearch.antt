@@ -1,7 +1,6 @@
 -- The bare search keeps the rules of a visit and answers by minimax.
-use Rattle.std.proofs.Common.{◌≡◌, ℕ, zero, suc, ◌+◌, ◌<◌, ◌≤◌, Bool, not, ◌⊎◌, Some, None, Option, refl, ap, ap₂, sym, ◌∙◌, inl, inr, arith}
-use mathlib.Core.Bool.{not-not}
-use borrow.Author.Count.{below_none, below_more}
+use Rattle.std.proofs.Common.{◌≡◌, ℕ, zero, suc, ◌+◌, ◌<◌, ◌≤◌, Bool, not, ◌⊎◌, Some, None, Option, refl, ap, ap₂, sym, ◌∙◌, inl, inr, arith, below_none, below_more}
+use Rattle.std.proofs.Math.Bool.{not-not}
 use Rattle.search.specs.Bare.{Count, bare, bare_moves, bare_visits, bare_within, first_or_later, with_visit}
 use Rattle.search.specs.Games.{GameLaws, Legal, Live, Rules}
 use Rattle.search.specs.Minimax.{Says, worth}

@@ -1,7 +1,6 @@
 -- Every visit and every list of calls can be made and ends. Over the table that holds nothing a visit is the bare search.
-use Rattle.std.proofs.Common.{◌≡◌, ℕ, zero, suc, ◌+◌, Bool, not, List, [], ◌∷◌, Some, None, Option, sym, refl, subst₂, inl, inr, arith}
+use Rattle.std.proofs.Common.{◌≡◌, ℕ, zero, suc, ◌+◌, Bool, not, List, [], ◌∷◌, Some, None, Option, sym, refl, subst₂, inl, inr, arith, below_none}
 use Rattle.std.proofs.lemmas.Bool.{cases_Bool}
-use borrow.Author.Count.{below_none}
 use Rattle.search.specs.declared.call.Call.{Call}
 use Rattle.search.specs.declared.call.Call.TheVariants.{Query, Solve, Best, Wipe}
 use Rattle.search.specs.declared.call.CallError.{CallError}

@@ -1,10 +1,9 @@
 -- Every visit over a table of true bounds is sound.
-use Rattle.std.proofs.Common.{◌≡◌, ℕ, zero, suc, ◌<◌, ◌≤◌, Bool, not, Some, None, sym, refl, ◌∙◌, ap₂, inl, inr, arith}
+use Rattle.std.proofs.Common.{◌≡◌, ℕ, zero, suc, ◌<◌, ◌≤◌, Bool, not, Some, None, sym, refl, ◌∙◌, ap₂, inl, inr, arith, below_none, below_more}
 use Rattle.std.specs.Prelude.{◌==◌, if◌then◌else◌}
 use Rattle.std.proofs.lemmas.Bool.{cond-true, cond-false, eq-eqb, ne_eqb}
 use Rattle.std.proofs.lemmas.Bool.Decides.{nat_tests}
-use borrow.Author.Count.{below_none, below_more}
-use mathlib.Core.Bool.{not-not}
+use Rattle.std.proofs.Math.Bool.{not-not}
 use Rattle.search.specs.declared.entry.Bound.{Bound}
 use Rattle.search.specs.Entries.{HoldsOf, Decisive, bound_of, offer, verdict}
 use Rattle.search.specs.Games.{GameLaws, Legal, Live, Rules}

@@ -1,4 +1,4 @@
-// Kayles through the game's interface, beside a minimax that shares no code with it.
+// Kayles through the game's interface, beside a minimax that shares nothing with it.
 use kayles::{Board, Kayles, Knock, Pin, Position, RunSet};
 use search::Game;
 use std::alloc::{AllocError, Global};
@@ -18,14 +18,14 @@ fn board(pins: u8, standing: u32) -> Option<Board> {
     })
 }
 
-// The separate minimax: the first move that leaves the other player without a win, if there is one. `wins` says of each
-// row with fewer standing pins whether its mover wins.
-fn winning_move(standing: u32, wins: &[bool]) -> Option<Knock> {
+// The separate minimax: the first move that leaves the other player without a win, if there is one, as its lowest pin and
+// how many. `wins` says of each row with fewer standing pins whether its mover wins.
+fn winning_move(standing: u32, wins: &[bool]) -> Option<(u8, u8)> {
     for at in 0..PINS {
         for (pins, mask) in [(1, 1u32), (2, 3u32)] {
             let taken = mask << at;
             if standing & taken == taken && wins.get((standing ^ taken) as usize) == Some(&false) {
-                return Some(Knock { pin: at + 1, pins });
+                return Some((at + 1, pins));
             }
         }
     }
@@ -88,7 +88,7 @@ fn agree(p: &Position, found: (u8, Option<Knock>), wins: &[bool]) -> bool {
     let won = winning.is_some();
     worth <= Kayles::top(p)
         && won == (Kayles::counting(p) == (worth == 1))
-        && (!won || winning == played)
+        && (!won || winning == played.map(|knock| (knock.pin, knock.pins)))
 }
 
 // What a board is worth with the one side to move or the other, if the two agree on it.

@@ -1,4 +1,4 @@
-use mathlib.Core.Path.{refl}
+use Rattle.std.proofs.Common.{refl}
 use Rattle.kayles.specs.Boards.{mask}
 use Rattle.kayles.specs.Play.{fallen, fallen_after, front, knocks, knocks_from, left_by, offered}
 use Rattle.kayles.specs.Rows.{pins, upright}

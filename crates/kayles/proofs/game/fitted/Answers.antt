@@ -1,6 +1,5 @@
 use Rattle.std.proofs.Common.{arith}
-use lib.Bits.{and_mask}
-use Rattle.std.proofs.lemmas.Nat.{one_shl}
+use Rattle.std.proofs.lemmas.Nat.{one_shl, and_mask}
 use Rattle.kayles.specs.Laws.Rebuilding.{same_board}
 use Rattle.kayles.proofs.game.fitted.Goals as goal
 

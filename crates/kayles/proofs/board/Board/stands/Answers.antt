@@ -1,4 +1,4 @@
-use mathlib.Core.Bool.{false≢true}
+use Rattle.std.proofs.lemmas.Bool.{false≢true}
 use Rattle.std.proofs.Common.{subst, ⊎_elim, arith}
 use Rattle.kayles.specs.Rows.{Stands, row}
 use Rattle.kayles.specs.Boards.{length-pins}
