@@ -1,4 +1,5 @@
 pub mod Limits
+pub mod Lists
 pub mod Rows
 pub mod Boards
 pub mod Runs

@@ -4,6 +4,7 @@ use Rattle.std.proofs.Common.{arith}
 use Rattle.kayles.specs.declared.board.Pin.{Pin}
 use Rattle.kayles.specs.declared.board.Pin.TheVariants.{Standing, Down}
 use Rattle.kayles.specs.declared.position.Knock.{Knock}
+use Rattle.kayles.specs.Lists.{ListOf}
 use Rattle.kayles.specs.Rows.{Stands, nth_pin}
 
 -- pin i is one of those that the knock takes
@@ -24,11 +25,9 @@ Earlier j k = (j.pin < k.pin) ⊎ ((j.pin ≡ k.pin) × (j.pins < k.pins))
 abbrev pub no_knock : Knock
 no_knock = record { pin = 0; pins = 0 }
 
--- ks lists the moves on the row: only moves, in order, and all of them. The move of number m is the one at place m, from 0
-pub record KnocksOf (ps : List Pin) (ks : List Knock) : Type 0 where
-  pub each : (m : ℕ) → m < length ks → IsKnock ps (slice_index_or ks m no_knock)
-  pub order : (j m : ℕ) → j < m → m < length ks → Earlier (slice_index_or ks j no_knock) (slice_index_or ks m no_knock)
-  pub all : (k : Knock) → IsKnock ps k → (m : ℕ) × (m < length ks) × (slice_index_or ks m no_knock ≡ k)
+-- ks lists the moves on the row. The move of number m is the one at place m, from 0
+abbrev pub KnocksOf : List Pin → List Knock → Type 0
+KnocksOf ps ks = ListOf (IsKnock ps) Earlier no_knock ks
 
 -- the move k on the row ps leaves the row qs: as many pins, those of the move are down, the others are as they were
 pub record Leaves (ps : List Pin) (k : Knock) (qs : List Pin) : Type 0 where

@@ -2,6 +2,7 @@
 use Rattle.std.specs.Prelude.{◌≡◌, ℕ, ◌+◌, ◌-◌, ◌<◌, ◌≤◌, List, length, slice_index_or}
 use Rattle.kayles.specs.declared.board.Pin.{Pin}
 use Rattle.kayles.specs.declared.runs.Run.{Run}
+use Rattle.kayles.specs.Lists.{ListOf}
 use Rattle.kayles.specs.Rows.{Stands}
 
 -- a run is a widest stretch of standing pins: all its pins stand, and neither the pin before nor the pin after
@@ -25,8 +26,6 @@ NoRun ps from = (r : Run) → IsRun ps r → r.first < from
 abbrev pub no_run : Run
 no_run = record { first = 0; len = 0 }
 
--- rs lists the runs of the row from the left: only runs, in order, and all of them
-pub record RunsOf (ps : List Pin) (rs : List Run) : Type 0 where
-  pub each : (k : ℕ) → k < length rs → IsRun ps (slice_index_or rs k no_run)
-  pub order : (j k : ℕ) → j < k → k < length rs → (slice_index_or rs j no_run).first < (slice_index_or rs k no_run).first
-  pub all : (r : Run) → IsRun ps r → (k : ℕ) × (k < length rs) × (slice_index_or rs k no_run ≡ r)
+-- rs lists the runs of the row from the left
+abbrev pub RunsOf : List Pin → List Run → Type 0
+RunsOf ps rs = ListOf (IsRun ps) (λ q r. q.first < r.first) no_run rs
