@@ -1,6 +1,6 @@
 -- Small boards, the counting side to move.
-use Rattle.std.specs.Prelude.{true, List, [], ◌∷◌, ◌≡◌, T, leb, length, slice_index_or}
-use Rattle.std.proofs.Common.{leb→le}
+use Rattle.std.specs.Prelude.{true, List, [], ◌∷◌, ◌≡◌, IsTrue, nat_le, length, slice_index_or, refl}
+use Rattle.std.proofs.Common.{leb-true}
 use Rattle.kayles.specs.declared.board.Pin.{Pin}
 use Rattle.kayles.specs.declared.board.Pin.TheVariants.{Standing, Down}
 use Rattle.kayles.specs.declared.position.Knock.{Knock}
@@ -13,27 +13,27 @@ use Rattle.search.specs.Bare.{bare_visits}
 use Rattle.search.specs.Minimax.{move, worth}
 
 -- the row, with the counting side to move
-abbrev pub counting_side : (ps : List Pin) → T (leb (length ps) most_pins) → Position
-counting_side ps t = record { board = board_of ps (leb→le (length ps) most_pins t); counting = true }
+abbrev pub counting_side : (ps : List Pin) → IsTrue (nat_le (length ps) most_pins) → Position
+counting_side ps e = record { board = board_of ps (leb-true (length ps) most_pins e); counting = true }
 
 -- nothing, X, X.X, XX, XXX and XX.XX
 abbrev pub board0 : Position
-board0 = counting_side [] tt
+board0 = counting_side [] refl
 
 abbrev pub boardX : Position
-boardX = counting_side (Standing ∷ []) tt
+boardX = counting_side (Standing ∷ []) refl
 
 abbrev pub boardX_X : Position
-boardX_X = counting_side (Standing ∷ Down ∷ Standing ∷ []) tt
+boardX_X = counting_side (Standing ∷ Down ∷ Standing ∷ []) refl
 
 abbrev pub boardXX : Position
-boardXX = counting_side (Standing ∷ Standing ∷ []) tt
+boardXX = counting_side (Standing ∷ Standing ∷ []) refl
 
 abbrev pub boardXXX : Position
-boardXXX = counting_side (Standing ∷ Standing ∷ Standing ∷ []) tt
+boardXXX = counting_side (Standing ∷ Standing ∷ Standing ∷ []) refl
 
 abbrev pub boardXX_XX : Position
-boardXX_XX = counting_side (Standing ∷ Standing ∷ Down ∷ Standing ∷ Standing ∷ []) tt
+boardXX_XX = counting_side (Standing ∷ Standing ∷ Down ∷ Standing ∷ Standing ∷ []) refl
 
 -- the best move, as pin and number of pins
 abbrev pub best : Position → Knock
