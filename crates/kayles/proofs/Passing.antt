@@ -1,6 +1,6 @@
 -- A turn over the pins of a mask: it passes over pins that are down, and then over one run.
 use Rattle.std.specs.Prelude.{◌≡◌, ℕ, zero, suc, ◌+◌, ◌-◌, ◌*◌, ◌/◌, ◌%◌, ◌^◌, ◌<◌, ◌≤◌, ◌⊎◌, bit_and, min, List, [], ◌∷◌, ◌++◌, replicate, refl}
-use Rattle.std.proofs.Common.{sym, ap, ap₂, ◌∙◌, inl, inr, add-zero, mul_assoc, arith, pow_mono, pow_pos, shr-shr}
+use Rattle.std.proofs.Common.{sym, ap, ap₂, ◌∙◌, inl, inr, add-zero, mul_assoc, arith, pow_pos, shr-shr}
 use Rattle.std.proofs.lemmas.Nat.{div-mul-add, pow-add, shr_le}
 use Rattle.std.specs.Int.{bit_at, trailing_ones, trailing_zeros, w64}
 use Rattle.std.proofs.lemmas.Bool.{cases_lt}

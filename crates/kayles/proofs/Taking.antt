@@ -1,5 +1,5 @@
 -- Moves on the mask: which can be made, how many there are, and what they leave.
-use Rattle.std.proofs.Common.{◌≡◌, ℕ, zero, suc, ◌+◌, ◌-◌, ◌*◌, ◌/◌, ◌%◌, ◌^◌, ◌<◌, ◌≤◌, cond, T, eqb, List, [], ◌∷◌, length, refl, ap, ◌∙◌, subst, add-mul, mod-eq_of_lt, pow-suc, arith, pow_pos, pow_mono, shr-shr}
+use Rattle.std.proofs.Common.{◌≡◌, ℕ, zero, suc, ◌+◌, ◌-◌, ◌*◌, ◌/◌, ◌%◌, ◌^◌, ◌<◌, ◌≤◌, cond, T, eqb, List, [], ◌∷◌, length, refl, ap, ◌∙◌, subst, add-mul, mod-eq_of_lt, pow-suc, arith, pow_pos, shr-shr}
 use Rattle.std.specs.Int.Count.{ones, ones_step}
 use Rattle.std.specs.Int.Bits.{and_step, bit_and}
 use Rattle.std.proofs.Math.Nat.{mod-one, zero-mod}
