@@ -18,7 +18,7 @@ pub enum Fault {
 }
 
 impl Fault {
-    // The number under which the fault is printed.
+    // The number under which the fault is printed. (A cast is not generic, so each numbered enum has its own call.)
     pub fn number(self) -> u8
         ensures { result ≡ number_of self }
     {

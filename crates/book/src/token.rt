@@ -3,7 +3,7 @@ ghost use Rattle.book.specs.Steps.{Told, borrowed};
 
 use kayles::Pin;
 
-// A part of a line, borrowed from it.
+// A part of a line, borrowed from it. It is no `Result`: the tokens of deals will be further variants.
 #[derive(Clone, Copy)]
 pub(crate) enum Token<'a> {
     // A pin of a board.

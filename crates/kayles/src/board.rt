@@ -11,7 +11,8 @@ pub enum Pin {
     Down = 0,
 }
 
-// A row of pins. Bit i of `standing` is 1 where pin i + 1 stands.
+// A row of pins. Bit i of `standing` is 1 where pin i + 1 stands. Both are plain words, as positions are; contracts read them
+// as `row`. A model would not do: the laws of a game hold of every value, and a row may be longer than a board.
 #[derive(Clone, Copy, PartialEq, Eq, Debug)]
 pub struct Board {
     pub(crate) count: u8,

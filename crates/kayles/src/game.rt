@@ -104,6 +104,8 @@ impl Game for Kayles {
         s == v
     }
 
+    // All three are the set of the position. A trait of games like that would be longer than these lines.
+
     fn broad(p: &Position) -> RunSet {
         Self::probe(p)
     }

@@ -7,7 +7,7 @@ ghost use Rattle.kayles.specs.Rows.{row};
 use crate::board::Board;
 use crate::position::Knock;
 
-// One pin or two, as a mask.
+// One pin or two, as a mask at the low end: at its place, the mask of two pins at pin 32 would lose a bit.
 fn mask_of(pins: u8) -> u32
     requires { pins ≤ 2 }
     ensures { result ≡ 2 ^ pins - 1 }
@@ -43,6 +43,7 @@ impl Board {
     {
         let mut left = number;
         let mut hit = None;
+        // Left at the wanted move: no list of the moves is made.
         'search: for pin in 1..self.count + 1 {
             for pins in 1..3 {
                 let knock = Knock { pin, pins };

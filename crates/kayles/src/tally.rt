@@ -73,7 +73,8 @@ fn word_of(board: Board) -> u64
 }
 
 impl RunSet {
-    // The set of a position: its side to move, and how many runs it has of each length.
+    // The set of a position: its side to move, and how many runs it has of each length. It is no `From`: a set forgets its
+    // position.
     pub fn of(p: Position) -> RunSet
         ensures value { result ≡ set_of p }
         ensures meaning { Describes p result }

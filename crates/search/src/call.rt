@@ -34,7 +34,7 @@ pub enum CallError {
 }
 
 impl CallError {
-    // The number that the refusal tells.
+    // The number that the refusal tells. (A cast is not generic, so each numbered enum has its own call.)
     pub fn number(self) -> u8
         ensures { result ≡ number_of self }
     {

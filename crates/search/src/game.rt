@@ -56,7 +56,7 @@ pub trait Game {
     fn height(p: &Self::Position) -> u8
         ensures { result ≡ rules.height p.now };
 
-    // The position as plain words.
+    // The position as plain words. (It is no `From`: the laws of a game speak of it.)
     fn row(p: &Self::Position) -> [u64; ROW]
         ensures { result ≡ rules.row p.now };
 

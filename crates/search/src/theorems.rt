@@ -1,5 +1,5 @@
 // The theorems, for every lawful game and table. Each function does nothing: its contract is the theorem, so that the
-// check asks for the proof.
+// check asks for the proof. Each names the game's rules by itself, since that is what the theorem is about.
 ghost use Rattle.search.specs.Promises.{BareRight, SessionsRight, VisitsRight, WorthRight};
 
 use crate::game::Game;
