@@ -1,9 +1,9 @@
 -- Every list of calls keeps what is promised.
-use Rattle.std.proofs.Common.{◌≡◌, ℕ, suc, ◌+◌, ◌-◌, ◌<◌, ◌≤◌, min, Bool, not, List, Some, Ok, Err, refl, ap, ◌∙◌, subst, subst₂, arith, below_none, below_more}
+use Rattle.std.proofs.Common.{◌≡◌, ℕ, suc, ◌+◌, ◌-◌, ◌<◌, ◌≤◌, min, Bool, not, ◌⊎◌, List, Some, None, Option, Ok, Err, inl, inr, refl, ap, ◌∙◌, subst, subst₂, arith, below_none, below_more}
 use Rattle.std.proofs.lemmas.Bool.Decides.{nat_tests}
 use Rattle.search.specs.declared.call.Answer.{Answer}
 use Rattle.search.specs.declared.call.Call.{Call}
-use Rattle.search.specs.declared.call.Call.TheVariants.{Query, Best}
+use Rattle.search.specs.declared.call.Call.TheVariants.{Query, Solve, Best}
 use Rattle.search.specs.declared.call.CallError.{CallError}
 use Rattle.search.specs.declared.call.Reply.TheVariants.{Answered}
 use Rattle.search.specs.Bare.{bare_after, bare_from, bare_solve, bare_visits}
@@ -27,6 +27,23 @@ sum_thrifty : {bare bare' n k : ℕ} {U V : Type 0} → Thrifty bare n U → Thr
 sum_thrifty t u = record { most = omega (arith, t.most, u.most); equal = λ h. omega (arith, t.equal h.0, u.equal h.1) }
 
 module _ {P : Type 0} (R : Rules P) where
+  pub refused_or_not : (c : Call P) → Accepted R c ⊎ ((e : CallError) × (refusal R c ≡ Some e))
+  refused_or_not c = go (refusal R c)
+    where
+      go : (o : Option CallError) → (o ≡ None) ⊎ ((e : CallError) × (o ≡ Some e))
+      go None = inl refl
+      go (Some e) = inr (e, refl)
+
+  -- An accepted call has the cells that its position wants.
+  query_fits : (p : P) (b cells : ℕ) → Accepted R (Query p b cells) → R.height p ≤ cells
+  query_fits p b cells e = grind (arith, nat_tests)
+
+  solve_fits : (p : P) (cells : ℕ) → Accepted R (Solve p cells) → R.height p ≤ cells
+  solve_fits p cells e = grind (arith, nat_tests)
+
+  best_fits : (p : P) (cells : ℕ) → Accepted R (Best p cells) → R.height p ≤ cells
+  best_fits p cells e = grind (arith, nat_tests)
+
   -- An accepted best has a position that is not ended.
   pub best_live : (p : P) (cells : ℕ) → Accepted R (Best p cells) → Live R p
   best_live p cells e = grind (arith, nat_tests)
@@ -52,7 +69,7 @@ module _ {P S : Type 0} (R : Rules P) (Z : Sets P S) (L : GameLaws R) (K : SetLa
     refusal_right c e h = grind (arith, nat_tests, query_short, solve_short, best_short, best_over)
 
     -- Queries from b on, where the worth is b - 1 at least, find it; of the bare searches at these bounds there are l.
-    solving : {p : P} {b : ℕ} {x : X} {w : ℕ} {y : X} {n : ℕ} (k : Solving R Z D p b x w y n) → 0 < b → b - 1 ≤ worth R p → AllTrue R Z D x → (l : ℕ) → l ≡ min (R.top p) (worth R p + 1) + 1 - b → (w ≡ worth R p) × AllTrue R Z D y × Thrifty (bare_from (bare_visits R p) l b) n (UnaidedSolving R Z D k)
+    pub solving : {p : P} {b : ℕ} {x : X} {w : ℕ} {y : X} {n : ℕ} (k : Solving R Z D p b x w y n) → 0 < b → b - 1 ≤ worth R p → AllTrue R Z D x → (l : ℕ) → l ≡ min (R.top p) (worth R p + 1) + 1 - b → (w ≡ worth R p) × AllTrue R Z D y × Thrifty (bare_from (bare_visits R p) l b) n (UnaidedSolving R Z D k)
     unfolding bare_from
     solving (past_top {p = p} h) hb hw t l e =
         let d : l ≡ 0 = omega arith in
@@ -97,24 +114,24 @@ module _ {P S : Type 0} (R : Rules P) (Z : Sets P S) (L : GameLaws R) (K : SetLa
       blank_after = λ q. absurd (cc (rw q at h));
       counts = tt;
     }
-    call_kept (queried h v) t =
+    call_kept (queried {p = p} {b = b} {cells = cells} h v) t =
         let o = visit_sound R Z L K D E v t in
         let f = visit_one R Z L K D E v in
         record {
-          right = answers (grind (arith, nat_tests)) o.answer;
+          right = answers (query_fits R p b cells h) o.answer;
           true_after = o.kept;
           blank_after = λ q. absurd (cc);
           counts = (capped_thrifty (visit_thrifty R Z L K D E v t), (λ e. f.0 (omega arith), λ i. omega (arith, f.1 i)));
         }
-    call_kept (solved h k) t =
+    call_kept (solved {p = p} {cells = cells} h k) t =
         let o = solve_kept k t in
-        record { right = solves (grind (arith, nat_tests)) o.0; true_after = o.1; blank_after = λ q. absurd (cc); counts = capped_thrifty o.2 }
-    call_kept (chosen {p = p} {m = m} h k l) t =
+        record { right = solves (solve_fits R p cells h) o.0; true_after = o.1; blank_after = λ q. absurd (cc); counts = capped_thrifty o.2 }
+    call_kept (chosen {p = p} {cells = cells} {m = m} h k l) t =
         let o = solve_kept k t in
         let w = choosing l o.0 (below_none _) o.1 in
         let d : suc m - 0 ≡ move R p + 1 = omega (arith, one_move R L p m w.0) in
         record {
-          right = chooses (grind (arith, nat_tests)) o.0 w.0;
+          right = chooses (best_fits R p cells h) o.0 w.0;
           true_after = w.1;
           blank_after = λ q. absurd (cc);
           counts = capped_thrifty (sum_thrifty o.2 (rw d at w.3));

@@ -21,10 +21,10 @@ pub record ByKey {P S : Type 0} (R : Rules P) (Z : Sets P S) (key : P → S) : T
 
 module _ {P S : Type 0} {R : Rules P} {Z : Sets P S} {key : P → S} (k : ByKey R Z key) where
   -- a member of p's set has p's key, and what holds a position holds all with its key
-  alike : (p q : P) → In Z (key p) q → key p ≡ key q
+  pub alike : (p q : P) → In Z (key p) q → key p ≡ key q
   alike p q i = k.is_key (key p) q i
 
-  shared : (s : S) (p q : P) → key p ≡ key q → In Z s p → In Z s q
+  pub shared : (s : S) (p q : P) → key p ≡ key q → In Z s p → In Z s q
   shared s p q e i = subst (λ t. In Z t q) (sym (k.is_key s p i ∙ e)) (k.own q)
 
   ended : (p q : P) → key p ≡ key q → Ended R p → Ended R q

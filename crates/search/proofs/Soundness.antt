@@ -25,6 +25,7 @@ says_bounds a b w h s = grind arith
 -- A visit that is not settled without a move.
 pub record Unsettled {P : Type 0} (R : Rules P) (p : P) (b : ℕ) : Type 0 where
   pub asks : 0 < b
+  pub within : b ≤ R.top p
   pub live : Live R p
 
 pub unsettled : {P : Type 0} (R : Rules P) (p : P) (b : ℕ) → settled R p b ≡ None → Unsettled R p b
