@@ -1,10 +1,10 @@
 -- A turn over the pins of a mask: it passes over pins that are down, and then over one run.
-use Rattle.std.specs.Prelude.{◌≡◌, ℕ, zero, suc, ◌+◌, ◌-◌, ◌*◌, ◌/◌, ◌%◌, ◌^◌, ◌<◌, ◌≤◌, ◌⊎◌, bit_and, min, List, [], ◌∷◌, ◌++◌, replicate, refl}
+use Rattle.std.specs.Prelude.{◌≡◌, ℕ, zero, suc, ◌+◌, ◌-◌, ◌*◌, ◌/◌, ◌%◌, ◌^◌, ◌<◌, ◌≤◌, ◌⊎◌, bit_and, bit_or, max, min, List, [], ◌∷◌, ◌++◌, replicate, refl}
 use Rattle.std.proofs.Common.{sym, ap, ap₂, ◌∙◌, inl, inr, add-zero, mul_assoc, arith, pow_pos, shr-shr}
 use Rattle.std.proofs.lemmas.Nat.{div-mul-add, pow-add, shr_le}
 use Rattle.std.specs.Int.{bit_at, trailing_ones, trailing_zeros, w64}
 use Rattle.std.proofs.lemmas.Bool.{cases_lt}
-use Rattle.std.proofs.lemmas.Nat.Bits.{bit_at_lowest, bit_at-suc, bit_at-trailing_ones, bit_at-trailing_zeros, bit_at_above, bit_at_and, bit_at_ones, bit_at-zero, bit_at_cat_low, bit_at_cat_high, same_from_bits}
+use Rattle.std.proofs.lemmas.Nat.Bits.{bit_at_lowest, bit_at-suc, bit_at-trailing_ones, bit_at-trailing_zeros, bit_at_above, bit_at_and, bit_at_or, bit_at_ones, bit_at-zero, bit_at_cat_low, bit_at_cat_high, same_from_bits}
 use Rattle.kayles.specs.declared.board.Board.{Board}
 use Rattle.kayles.specs.declared.board.Pin.{Pin}
 use Rattle.kayles.specs.declared.board.Pin.TheVariants.{Standing, Down}
@@ -88,6 +88,11 @@ even_and : (r i : ℕ) → r % 2 ≡ 0 → min (bit_at r i) (bit_at (r + 1) i) �
 even_and r zero e = omega (arith, bit_at_lowest r)
 even_and r (suc i) e = omega (arith, bit_at-suc r i, bit_at-suc (r + 1) i, ap (λ k. bit_at k i) (let h : (r + 1) / 2 ≡ r / 2 = omega arith in h))
 
+-- an odd number and one less have the bits of the odd number
+odd_or : (m i : ℕ) → m % 2 ≡ 1 → max (bit_at m i) (bit_at (m - 1) i) ≡ bit_at m i
+odd_or m zero e = omega (arith, bit_at_lowest m, bit_at_lowest (m - 1))
+odd_or m (suc i) e = omega (arith, bit_at-suc m i, bit_at-suc (m - 1) i, ap (λ k. bit_at k i) (let h : (m - 1) / 2 ≡ m / 2 = omega arith in h))
+
 -- ---- what a turn takes off a board: of its pins z are down, and the u after them stand
 module _ (b : Board) (some : b.standing ≡ 0 → ⊥) where
   abbrev z : ℕ
@@ -131,20 +136,44 @@ module _ (b : Board) (some : b.standing ≡ 0 → ⊥) where
   rest_even : rest % 2 ≡ 0
   rest_even = sym (bit_at-shr b.standing z u) ∙ ups.1
 
-  abbrev carried : ℕ
-  carried = b.standing + 1 * 2 ^ z % 18446744073709551616
-
   pins_are : b.standing ≡ up * 2 ^ z + 0
   pins_are = split_low z 0 b.standing (pow_pos z) (λ i l. downs.2 i l ∙ sym (bit_at-zero i))
 
   whole : 2 ^ z ≤ b.standing
   whole = omega (arith, pins_are, downs.1, ap (λ k. k * 2 ^ z) (let e : up ≡ up - 1 + 1 = omega (arith, downs.1) in e))
 
+  abbrev filled : ℕ
+  filled = bit_or b.standing (b.standing - 1)
+
+  filled_is : filled ≡ up * 2 ^ z + (2 ^ z - 1)
+  filled_is = same_from_bits filled (up * 2 ^ z + (2 ^ z - 1)) (λ i. bit_at_or b.standing (b.standing - 1) i ∙ at i (cases_lt i z))
+    where
+      less : b.standing - 1 ≡ (up - 1) * 2 ^ z + (2 ^ z - 1)
+      less = omega (arith, pins_are, pow_pos z, downs.1, ap (λ k. k * 2 ^ z) (let e : up ≡ up - 1 + 1 = omega (arith, downs.1) in e))
+
+      at : (i : ℕ) → (i < z) ⊎ (z ≤ i) → max (bit_at b.standing i) (bit_at (b.standing - 1) i) ≡ bit_at (up * 2 ^ z + (2 ^ z - 1)) i
+      at i (inl l) =
+          omega (arith, downs.2 i l, ap (λ k. bit_at k i) less, bit_at_cat_low (up - 1) z (2 ^ z - 1) i l, bit_at_cat_low up z (2 ^ z - 1) i l)
+      at i (inr l) =
+          ap₂ max (bit_at_later b.standing z i l) (ap (λ k. bit_at k i) less ∙ bit_at_cat_high (up - 1) z (2 ^ z - 1) i (omega (arith, pow_pos z)) l)
+          ∙ odd_or up (i - z) downs.1
+          ∙ sym (bit_at_cat_high up z (2 ^ z - 1) i (omega (arith, pow_pos z)) l)
+
+  abbrev carried : ℕ
+  carried = filled + 1
+
+  carried_sum : carried ≡ b.standing + 2 ^ z
+  carried_sum = omega (arith, filled_is, pins_are, pow_pos z)
+
+  -- there is room for it
+  carried_fits : carried < 2 ^ 64
+  carried_fits = omega (arith, carried_sum, low, whole)
+
   carried_is : carried ≡ (rest + 1) * 2 ^ (z + u) + 0
   carried_is =
       let run_is : up ≡ up / 2 ^ u * 2 ^ u + (2 ^ u - 1) = split_low u (2 ^ u - 1) up (omega (arith, pow_pos u)) (λ i l. ups.2 i l ∙ sym (bit_at_ones u i l)) in
       let more : up + 1 ≡ (rest + 1) * 2 ^ u = omega (arith, run_is, pow_pos u, ap (λ k. k * 2 ^ u) (shr-shr b.standing z u)) in
-      let first : carried ≡ (up + 1) * 2 ^ z = omega (arith, pins_are, whole, low) in
+      let first : carried ≡ (up + 1) * 2 ^ z = omega (arith, pins_are, carried_sum) in
       first ∙ ap (λ k. k * 2 ^ z) more ∙ mul_assoc (rest + 1) (2 ^ u) (2 ^ z) ∙ ap (λ k. (rest + 1) * k) (sym (pow-add 2 u z))
       ∙ ap (λ k. (rest + 1) * 2 ^ k) (let e : u + z ≡ z + u = omega arith in e) ∙ sym (add-zero ((rest + 1) * 2 ^ (z + u)))
 
@@ -155,7 +184,7 @@ module _ (b : Board) (some : b.standing ≡ 0 → ⊥) where
   rest_bits i l = ap (λ k. bit_at k i) carried_is ∙ bit_at_cat_high (rest + 1) (z + u) 0 i (pow_pos (z + u)) l
 
   end_is : trailing_zeros w64 carried ≡ z + u
-  end_is = lowest_is carried (z + u) (omega (arith, low, whole)) (rest_bits (z + u) (omega arith) ∙ one) run_bits
+  end_is = lowest_is carried (z + u) carried_fits (rest_bits (z + u) (omega arith) ∙ one) run_bits
     where
       one : bit_at (rest + 1) (z + u - (z + u)) ≡ 1
       one = ap (bit_at (rest + 1)) (let e : z + u - (z + u) ≡ 0 = omega arith in e) ∙ bit_at_lowest (rest + 1) ∙ omega (arith, rest_even)
@@ -190,16 +219,17 @@ module _ (b : Board) (some : b.standing ≡ 0 → ⊥) where
   abbrev end : ℕ
   end = trailing_zeros w64 carried
 
-  pub run_taken : all_runs (row b) ≡ record { first = z + 1; len = end - z } ∷ all_runs (pins b.count left)
+  -- a turn gives the run that begins at pin f and has l pins, and leaves the mask m, where these are read off the mask so
+  pub run_taken : (f l m : ℕ) → f ≡ z + 1 → l ≡ end - z → m ≡ left → all_runs (row b) ≡ record { first = f; len = l } ∷ all_runs (pins b.count m)
   unfolding all_runs
-  run_taken =
+  run_taken f l m first long rest_is =
       ap (runs_from 1 0) three
       ∙ runs_past_down 1 z (replicate u Standing ++ pins behind rest)
       ∙ runs_past_up (1 + z) 0 u (pins behind rest)
       ∙ run_over (1 + z + u) (0 + u) behind rest rest_even
       ∙ closed_some (1 + z + u) (0 + u) (runs_from (1 + z + u) 0 (pins behind rest)) (omega (arith, run_some))
-      ∙ ap₂ ◌∷◌ (λ i. record { first = (let e : 1 + z + u - (0 + u) ≡ z + 1 = omega arith in e) i; len = (let e : 0 + u ≡ end - z = omega (arith, end_is) in e) i })
-      (ap (λ k. runs_from k 0 (pins behind rest)) (let e : 1 + z + u ≡ 1 + (z + u) = omega arith in e) ∙ sym (ap (runs_from 1 0) two ∙ runs_past_down 1 (z + u) (pins behind rest)))
+      ∙ ap₂ ◌∷◌ (λ i. record { first = (let e : 1 + z + u - (0 + u) ≡ f = omega (arith, first) in e) i; len = (let e : 0 + u ≡ l = omega (arith, end_is, long) in e) i })
+      (ap (λ k. runs_from k 0 (pins behind rest)) (let e : 1 + z + u ≡ 1 + (z + u) = omega arith in e) ∙ sym (ap (λ k. runs_from 1 0 (pins b.count k)) rest_is ∙ ap (runs_from 1 0) two ∙ runs_past_down 1 (z + u) (pins behind rest)))
 
   pub run_ends : z ≤ end
   run_ends = omega (arith, end_is)

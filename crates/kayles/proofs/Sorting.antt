@@ -36,7 +36,7 @@ module _ {A : Type 0} (d : A) (Before : A → A → Type 0) (one_way : (a b : A)
           absurd (one_way x x (subst (Before x) (sym (e ∙ f)) b) (subst (Before x) (sym (e ∙ f)) b))
       go (suc j, m, f) = (j, omega arith, f)
 
-  same_sorted : (xs ys : List A) → Sorted xs → Sorted ys → Within xs ys → Within ys xs → xs ≡ ys
+  pub same_sorted : (xs ys : List A) → Sorted xs → Sorted ys → Within xs ys → Within ys xs → xs ≡ ys
   same_sorted [] [] s t w v = refl
   same_sorted [] (y ∷ ys) s t w v = absurd (let h = v 0 (omega arith) in omega (arith, h.1))
   same_sorted (x ∷ xs) [] s t w v = absurd (let h = w 0 (omega arith) in omega (arith, h.1))

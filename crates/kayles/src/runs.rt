@@ -52,8 +52,8 @@ impl Iterator for Runs {
             return None;
         }
         let down = pins.trailing_zeros();
-        // The run's first pin, added, carries through the run to the place behind it.
-        let carried = pins + (1 << down);
+        // With the places before the run filled up, one more carries through the run to the place behind it.
+        let carried = (pins | (pins - 1)) + 1;
         let end = carried.trailing_zeros();
         self.left.standing = (pins & carried) as u32;
         Some(Run {

@@ -1,4 +1,4 @@
-use Rattle.std.proofs.Common.{◌≡◌, [], length, ap, arith}
+use Rattle.std.proofs.Common.{◌≡◌, [], length, refl, ap, arith}
 use Rattle.kayles.specs.Tallies.{runs_left}
 use Rattle.kayles.proofs.Passing.{no_runs, run_ends, run_taken}
 use Rattle.kayles.proofs.runs.RunsIterator.next.Goals as goal
@@ -11,9 +11,9 @@ pub overflow_sub-result : goal.overflow_sub-result
 overflow_sub-result c = run_ends c.args.self.now.left c.if-pins-eq0.false
 
 pub returns-clause-steps : goal.returns-clause-steps
-returns-clause-steps c = run_taken c.args.self.now.left c.if-pins-eq0.false
+returns-clause-steps c = run_taken c.args.self.now.left c.if-pins-eq0.false _ _ _ (omega arith) (omega arith) search
 
 pub returns-clause-goes : goal.returns-clause-goes
 returns-clause-goes c =
-    let shorter = ap length (run_taken c.args.self.now.left c.if-pins-eq0.false) in
+    let shorter = ap length (run_taken c.args.self.now.left c.if-pins-eq0.false _ _ _ refl refl refl) in
     record { on = λ f. (tt, tt, omega arith); keeps = tt; rests = λ f. tt }
