@@ -130,7 +130,7 @@ fallen_pins (suc k) (suc n) m t =
     grind (arith, nat_tests, bite_more k, f.0, fallen_pins k n (m / 2) f.1)
 
 -- where they stand they are 1
-inside : (i k n m : ℕ) → m < 2 ^ n → T (up_after i k (pins n m)) → bit_and m (bite i k) ≡ bite i k
+pub inside : (i k n m : ℕ) → m < 2 ^ n → T (up_after i k (pins n m)) → bit_and m (bite i k) ≡ bite i k
 unfolding bite
 inside i k n m h t =
     let whole : 2 ^ k - 1 + 1 ≡ 2 ^ k = omega (arith, pow_pos k) in
@@ -163,7 +163,7 @@ module _ (b : Board) (k : Knock) (is : IsKnock (row b) k) where
   pin_low = let u = knock_up (row b) k is in (u.0, omega (arith, u.0, up_in (k.pin - 1) k.pins (row b) is.some u.1, length-pins b.count b.standing, b.few))
 
   -- to clear the bits of the move is to subtract them
-  cleared : bit_and b.standing (2 ^ 32 - 1 - bite (k.pin - 1) k.pins) ≡ b.standing - bite (k.pin - 1) k.pins
+  pub cleared : bit_and b.standing (2 ^ 32 - 1 - bite (k.pin - 1) k.pins) ≡ b.standing - bite (k.pin - 1) k.pins
   cleared =
       let i = k.pin - 1 in
       let u = (knock_up (row b) k is).1 in

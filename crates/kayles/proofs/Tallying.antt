@@ -16,11 +16,11 @@ use Rattle.kayles.proofs.Masks.{down_up}
 use Rattle.kayles.proofs.Stretches.{no_pin_0, none_past, run_begins, run_fits, same_run}
 
 -- rs lists the runs that begin at pin `from` or later
-record Lists (ps : List Pin) (from : ℕ) (rs : List Run) : Type 0 where
-  each : (k : ℕ) → k < length rs → IsRun ps (slice_index_or rs k no_run)
-  late : (k : ℕ) → k < length rs → from ≤ (get_or rs k no_run).first
-  order : (j k : ℕ) → j < k → k < length rs → (get_or rs j no_run).first < (get_or rs k no_run).first
-  all : (r : Run) → IsRun ps r → from ≤ r.first → (k : ℕ) × (k < length rs) × (slice_index_or rs k no_run ≡ r)
+pub record Lists (ps : List Pin) (from : ℕ) (rs : List Run) : Type 0 where
+  pub each : (k : ℕ) → k < length rs → IsRun ps (slice_index_or rs k no_run)
+  pub late : (k : ℕ) → k < length rs → from ≤ (get_or rs k no_run).first
+  pub order : (j k : ℕ) → j < k → k < length rs → (get_or rs j no_run).first < (get_or rs k no_run).first
+  pub all : (r : Run) → IsRun ps r → from ≤ r.first → (k : ℕ) × (k < length rs) × (slice_index_or rs k no_run ≡ r)
 
 lists_none : (ps : List Pin) (from : ℕ) → length ps < from → Lists ps from []
 lists_none ps from h = record {
@@ -61,12 +61,12 @@ lists_run ps q rs is l = record { each = each; late = late; order = order; all =
 
 -- The pins `rest` follow the first i pins of ps. Of those, the last n stand, which are the pins from `from` on, and the one
 -- before them doesn't.
-record Walked (ps rest : List Pin) (i n from : ℕ) : Type 0 where
-  long : length ps ≡ i + length rest
-  at : (j : ℕ) → slice_index_or ps (i + j) Down ≡ slice_index_or rest j Down
-  start : from + n ≡ suc i
-  stand : (k : ℕ) → from ≤ k → k ≤ i → Stands ps k
-  before : Stands ps (from - 1) → ⊥
+pub record Walked (ps rest : List Pin) (i n from : ℕ) : Type 0 where
+  pub long : length ps ≡ i + length rest
+  pub at : (j : ℕ) → slice_index_or ps (i + j) Down ≡ slice_index_or rest j Down
+  pub start : from + n ≡ suc i
+  pub stand : (k : ℕ) → from ≤ k → k ≤ i → Stands ps k
+  pub before : Stands ps (from - 1) → ⊥
 
 -- the next pin
 next_is : (ps : List Pin) (p : Pin) (rest : List Pin) (i n from : ℕ) → Walked ps (p ∷ rest) i n from → slice_index_or (Down ∷ ps) (suc i) Down ≡ p
@@ -76,7 +76,7 @@ walked_at : (ps : List Pin) (p : Pin) (rest : List Pin) (i n from : ℕ) → Wal
 walked_at ps p rest i n from w j = ap (λ k. get_or ps k Down) (let e : suc i + j ≡ i + suc j = omega arith in e) ∙ w.at (suc j)
 
 -- it stands
-walked_up : (ps rest : List Pin) (i n from : ℕ) → Walked ps (Standing ∷ rest) i n from → Walked ps rest (suc i) (suc n) from
+pub walked_up : (ps rest : List Pin) (i n from : ℕ) → Walked ps (Standing ∷ rest) i n from → Walked ps rest (suc i) (suc n) from
 walked_up ps rest i n from w = record {
   long = omega (arith, w.long);
   at = walked_at ps Standing rest i n from w;
@@ -90,7 +90,7 @@ walked_up ps rest i n from w = record {
     stand k a b (inr h) = w.stand k a h
 
 -- it is down
-walked_down : (ps rest : List Pin) (i n from : ℕ) → Walked ps (Down ∷ rest) i n from → (Stands ps (suc i) → ⊥) → Walked ps rest (suc i) 0 (suc (suc i))
+pub walked_down : (ps rest : List Pin) (i n from : ℕ) → Walked ps (Down ∷ rest) i n from → (Stands ps (suc i) → ⊥) → Walked ps rest (suc i) 0 (suc (suc i))
 walked_down ps rest i n from w d = record {
   long = omega (arith, w.long);
   at = walked_at ps Down rest i n from w;
@@ -115,7 +115,7 @@ lists_closed ps rest i (suc n) from rs w d l =
     } in
     subst (λ k. Lists ps k (q ∷ rs)) begins (lists_run ps q rs is (subst (λ k. Lists ps k rs) ends l))
 
-listing : (ps rest : List Pin) (i n from : ℕ) → Walked ps rest i n from → Lists ps from (runs_from (suc i) n rest)
+pub listing : (ps rest : List Pin) (i n from : ℕ) → Walked ps rest i n from → Lists ps from (runs_from (suc i) n rest)
 unfolding runs_from
 listing ps [] i n from w =
     let past : length ps < suc i = omega (arith, w.long) in
