@@ -169,10 +169,14 @@ module _ (b : Board) (k : Knock) (is : IsKnock (row b) k) where
       let u = (knock_up (row b) k is).1 in
       grind (arith, low_mask b, bite_le i k.pins b.count b.standing b.within u, inside i k.pins b.count b.standing b.within u, and-not 32 (bite i k.pins) b.standing, and_comm b.standing)
 
+  -- where w is one pin or two, as a mask at the low end, its place on the board takes in these bits
+  pub bite_is : (w : ℕ) → w ≡ 2 ^ k.pins - 1 → (w * 2 ^ (k.pin - 1)) % 4294967296 ≡ bite (k.pin - 1) k.pins
+  unfolding bite
+  bite_is w e = rw e (mod-eq_of_lt (omega (arith, bite_le (k.pin - 1) k.pins b.count b.standing b.within (knock_up (row b) k is).1, low_mask b)))
+
+  pub bite_fits : (w : ℕ) → w ≡ 2 ^ k.pins - 1 → (w * 2 ^ (k.pin - 1)) % 4294967296 ≤ b.standing
+  bite_fits w e = omega (arith, bite_is w e, bite_le (k.pin - 1) k.pins b.count b.standing b.within (knock_up (row b) k is).1)
+
   pub row_left : (w : ℕ) → w ≡ 2 ^ k.pins - 1 → pins b.count (bit_and b.standing (4294967295 - (w * 2 ^ (k.pin - 1)) % 4294967296)) ≡ left_by k (row b)
-  unfolding left_by bite
-  row_left w e =
-      let i = k.pin - 1 in
-      let u = (knock_up (row b) k is).1 in
-      let whole : (w * 2 ^ i) % 4294967296 ≡ bite i k.pins = rw e (mod-eq_of_lt (omega (arith, bite_le i k.pins b.count b.standing b.within u, low_mask b))) in
-      rw (whole, cleared) (left_pins i k.pins b.count b.standing b.within u)
+  unfolding left_by
+  row_left w e = rw (bite_is w e, cleared) (left_pins (k.pin - 1) k.pins b.count b.standing b.within (knock_up (row b) k is).1)

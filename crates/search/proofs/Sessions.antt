@@ -27,6 +27,7 @@ sum_thrifty : {bare bare' n k : ℕ} {U V : Type 0} → Thrifty bare n U → Thr
 sum_thrifty t u = record { most = omega (arith, t.most, u.most); equal = λ h. omega (arith, t.equal h.0, u.equal h.1) }
 
 module _ {P : Type 0} (R : Rules P) where
+  -- A call is accepted, or there is a reason to refuse it.
   pub refused_or_not : (c : Call P) → Accepted R c ⊎ ((e : CallError) × (refusal R c ≡ Some e))
   refused_or_not c = go (refusal R c)
     where
